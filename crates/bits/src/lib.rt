@@ -1,0 +1,3 @@
+// Bit fields of a word (bits.rs) and the conditions (psr.rs).
+pub mod field;
+pub mod psr;
