@@ -1,11 +1,12 @@
 -- A machine, and a new one.
 use Prim.Native.Nat.{ℕ}
 use mathlib.Core.Path.{_≡_}
-use mathlib.Core.Bool.{false}
+use mathlib.Core.Bool.{Bool, false}
 use mathlib.Core.List.{List}
 use lib.ListN.{length, replicate}
 use Rattle.bits.specs.declared.psr.Psr.{Psr}
 use Rattle.machine.specs.declared.Machine.{Machine}
+use Rattle.machine.specs.declared.Controls.{Controls}
 
 -- all zero but FPEXC, whose bit 30 enables the unit
 abbrev pub newMachine : Machine
@@ -39,3 +40,10 @@ withFpexc m x = record { s = m .s; r = m .r; fpscr = m .fpscr; fpexc = x; cpsr =
 
 abbrev pub withCpsr : Machine → Psr → Machine
 withCpsr m x = record { s = m .s; r = m .r; fpscr = m .fpscr; fpexc = m .fpexc; cpsr = x; thumb = m .thumb }
+
+-- the machine of its parts, and the parts that are no array
+abbrev pub assembled : List ℕ → List ℕ → Controls → Bool → Machine
+assembled s r x thumb = record { s = s; r = r; fpscr = x .fpscr; fpexc = x .fpexc; cpsr = x .cpsr; thumb = thumb }
+
+abbrev pub controlsOf : Machine → Controls
+controlsOf m = record { fpscr = m .fpscr; fpexc = m .fpexc; cpsr = m .cpsr }

@@ -6,12 +6,23 @@ use lib.Dec.{eqb, ltb}
 use lib.ListN.{getD, set}
 use Rattle.bits.specs.Psr.{nzcvOf, psrOf}
 use Rattle.machine.specs.declared.Machine.{Machine}
+use Rattle.machine.specs.Registers.{singleIndex, lowIndex, highIndex}
 use Rattle.machine.specs.Machine.{withS, withR, withFpscr, withFpexc, withCpsr}
 
 -- s0.., r0.., the window's words; FPSCR 31:28 and 27:0, FPEXC and NZCV
 pub data Place : Type 0 where
   single core word : ℕ → Place
   flags control exc nzcv : Place
+
+-- the places of a single, and of the low and the high word of a double
+abbrev pub sWord : ℕ → Place
+sWord n = single (singleIndex n)
+
+abbrev pub lowWord : ℕ → Place
+lowWord n = single (lowIndex n)
+
+abbrev pub highWord : ℕ → Place
+highWord n = single (highIndex n)
 
 -- how many places stand before the window's words
 abbrev pub before : ℕ

@@ -16,6 +16,13 @@ pub struct Machine {
     pub thumb: bool,
 }
 
+// What is no array of a machine: it travels by value beside the lent arrays.
+pub struct Controls {
+    pub fpscr: u32,
+    pub fpexc: u32,
+    pub cpsr: Psr,
+}
+
 impl Machine {
     // All zero, but for the enable bit of FPEXC.
     pub fn new() -> Machine
