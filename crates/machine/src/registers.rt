@@ -57,6 +57,30 @@ pub fn set_double(s: &mut [u32; 32], x: Double, v: u64)
     s[i + 1] = (v / 0x1_0000_0000) as u32;
 }
 
+// The two words of a double.
+pub struct Words {
+    pub low: u32,
+    pub high: u32,
+}
+
+pub fn get_words(s: &[u32; 32], x: Double) -> Words
+    ensures { λ w. ⌜ (w .low ≡ getD (now (s .entry)) (lowIndex (x .0)) 0) × (w .high ≡ getD (now (s .entry)) (highIndex (x .0)) 0) ⌝ }
+{
+    let at = x.0 % 16 * 2;
+    Words {
+        low: s[at],
+        high: s[at + 1],
+    }
+}
+
+pub fn set_words(s: &mut [u32; 32], x: Double, w: Words)
+    ensures { λ _. ⌜ now (s .exit) ≡ set (set (now (s .entry)) (lowIndex (x .0)) (w .low)) (highIndex (x .0)) (w .high) ⌝ }
+{
+    let at = x.0 % 16 * 2;
+    s[at] = w.low;
+    s[at + 1] = w.high;
+}
+
 fn wide(x: u32) -> u64
     ensures { λ r. ⌜ (r ≡ x) × (r < 2 ^ 32) ⌝ }
 {

@@ -1,0 +1,118 @@
+// The arithmetic: iterations in turn, each reading what earlier ones wrote.
+ghost use mathlib.Core.Path.{_≡_};
+ghost use mathlib.Core.List.{List};
+ghost use Prim.Native.Nat.{ℕ, _<_};
+ghost use lib.Ieee.{binary32, binary64};
+ghost use Rattle.machine.specs.declared.Machine.{Machine};
+ghost use Rattle.machine.specs.Machine.{withS};
+ghost use Rattle.machine.specs.Place.{state};
+ghost use Rattle.meaning.specs.Step.{step, after};
+ghost use Rattle.processing.specs.Vector.{iterationsOf};
+ghost use Rattle.processing.specs.Data.{arithmeticStep, arithmeticAt, dyadicStep};
+use super::vector::Vector;
+use machine::registers::Double;
+use machine::registers::Single;
+use machine::registers::get_double;
+use machine::registers::get_single;
+use machine::registers::set_double;
+use machine::registers::set_single;
+use numbers::arithmetic::Arithmetic;
+use numbers::arithmetic::arithmetic32;
+use numbers::arithmetic::arithmetic64;
+
+// The kind that bits 23, 21, 20 and 6 name.
+pub fn arithmetic_of(k: u32) -> Arithmetic
+    ensures { λ r. ⌜ r ≡ arithmeticAt k ⌝ }
+{
+    match k {
+        0 => Arithmetic::MultiplyAccumulate,
+        1 => Arithmetic::MultiplySubtract,
+        2 => Arithmetic::NegateMultiplySubtract,
+        3 => Arithmetic::NegateMultiplyAccumulate,
+        4 => Arithmetic::Multiply,
+        5 => Arithmetic::NegateMultiply,
+        6 => Arithmetic::Add,
+        7 => Arithmetic::Subtract,
+        _ => Arithmetic::Divide,
+    }
+}
+
+pub fn arithmetic_single(
+    s: &mut [u32; 32],
+    control: u32,
+    kind: Arithmetic,
+    d: Single,
+    n: Single,
+    m: Single,
+)
+    ensures { λ _. ⌜ ((q : Machine) (v : List ℕ) → state (withS q (now (s .exit))) v ≡ step (arithmeticStep binary32 control kind (d .0) (n .0) (m .0)) (state (withS q (now (s .entry))) v)) ⌝ }
+{
+    let a = get_single(s, n);
+    let b = get_single(s, m);
+    let old = get_single(s, d);
+    let x = arithmetic32(control, kind, a, b, old);
+    set_single(s, d, x);
+}
+
+pub fn arithmetic_double(
+    s: &mut [u32; 32],
+    control: u32,
+    kind: Arithmetic,
+    d: Double,
+    n: Double,
+    m: Double,
+)
+    ensures { λ _. ⌜ ((q : Machine) (v : List ℕ) → state (withS q (now (s .exit))) v ≡ step (arithmeticStep binary64 control kind (d .0) (n .0) (m .0)) (state (withS q (now (s .entry))) v)) ⌝ }
+{
+    let a = get_double(s, n);
+    let b = get_double(s, m);
+    let old = get_double(s, d);
+    let x = arithmetic64(control, kind, a, b, old);
+    set_double(s, d, x);
+}
+
+pub fn arithmetic_singles(
+    s: &mut [u32; 32],
+    control: u32,
+    kind: Arithmetic,
+    d: Single,
+    n: Single,
+    m: Single,
+)
+    requires { ⌜ (d .0 < 32) × (n .0 < 32) × (m .0 < 32) ⌝ }
+    ensures { λ _. ⌜ ((q : Machine) (v : List ℕ) → state (withS q (now (s .exit))) v ≡ after (iterationsOf binary32 control (d .0)) (dyadicStep binary32 control kind (d .0) (n .0) (m .0)) (state (withS q (now (s .entry))) v)) ⌝ }
+{
+    let vector = Vector::new(control, false, d.0);
+    let count = vector.iterations;
+    let mut i: usize = 0;
+    while i < count {
+        let dn = vector.step(d.0, i);
+        let nn = vector.step(n.0, i);
+        let mn = vector.second(m.0, i);
+        arithmetic_single(s, control, kind, Single(dn), Single(nn), Single(mn));
+        i += 1;
+    }
+}
+
+pub fn arithmetic_doubles(
+    s: &mut [u32; 32],
+    control: u32,
+    kind: Arithmetic,
+    d: Double,
+    n: Double,
+    m: Double,
+)
+    requires { ⌜ (d .0 < 32) × (n .0 < 32) × (m .0 < 32) ⌝ }
+    ensures { λ _. ⌜ ((q : Machine) (v : List ℕ) → state (withS q (now (s .exit))) v ≡ after (iterationsOf binary64 control (d .0)) (dyadicStep binary64 control kind (d .0) (n .0) (m .0)) (state (withS q (now (s .entry))) v)) ⌝ }
+{
+    let vector = Vector::new(control, true, d.0);
+    let count = vector.iterations;
+    let mut i: usize = 0;
+    while i < count {
+        let dn = vector.step(d.0, i);
+        let nn = vector.step(n.0, i);
+        let mn = vector.second(m.0, i);
+        arithmetic_double(s, control, kind, Double(dn), Double(nn), Double(mn));
+        i += 1;
+    }
+}
