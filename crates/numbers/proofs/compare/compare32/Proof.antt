@@ -1,0 +1,35 @@
+use mathlib.Core.Bool.{true, false}
+use lib.Ieee.{binary32}
+use Rattle.numbers.proofs.Flags.{nan-l, nan-r, equal, ordered}
+use borrow.Author.Needs.{needs}
+use Rattle.numbers.proofs.compare.compare32.Statement.{statement}
+use Rattle.numbers.proofs.compare.compare32.Tie as tie
+use Rattle.numbers.proofs.compare.compare32.Reads as reads
+use Rattle.numbers.proofs.compare.compare32.Lts as lts
+use Rattle.numbers.proofs.word.float32.Reads as float32-reads
+
+float32-requires : tie.Need-float32-requires
+float32-requires c κs = search needs
+
+float32-requires-2 : tie.Need-float32-requires-2
+float32-requires-2 c κs = search needs
+
+returns : tie.Need-returns
+returns c = nan-l binary32 (c .before .before .before .args .a) (c .before .before .before .args .b) (c .before .before .float32 .result) (c .before .float322 .result) (c .before .before .float32 .ensures) (c .before .float322 .ensures) (c .if1 .taken)
+
+returns-2 : tie.Need-returns-2
+returns-2 c = nan-r binary32 (c .before .before .before .before .args .a) (c .before .before .before .before .args .b) (c .before .before .before .float32 .result) (c .before .before .float322 .result) (c .before .before .before .float32 .ensures) (c .before .before .float322 .ensures) (c .before .if1 .left) (c .if2 .taken)
+
+returns-3 : tie.Need-returns-3
+returns-3 c = equal binary32 (c .before .before .before .before .before .args .a) (c .before .before .before .before .before .args .b) (c .before .before .before .before .float32 .result) (c .before .before .before .float322 .result) (c .before .before .before .before .float32 .ensures) (c .before .before .before .float322 .ensures) (c .before .before .if1 .left) (c .before .if2 .left) (c .if3 .taken)
+
+returns-4 : tie.Need-returns-4
+returns-4 c = ordered binary32 (c .before .before .before .before .before .before .args .a) (c .before .before .before .before .before .before .args .b) (c .before .before .before .before .before .float32 .result) (c .before .before .before .before .float322 .result) (c .before .before .before .before .before .float32 .ensures) (c .before .before .before .before .float322 .ensures) true (c .before .before .before .if1 .left) (c .before .before .if2 .left) (c .before .if3 .left) (c .if4 .taken)
+
+returns-5 : tie.Need-returns-5
+returns-5 c = ordered binary32 (c .before .before .before .before .before .before .args .a) (c .before .before .before .before .before .before .args .b) (c .before .before .before .before .before .float32 .result) (c .before .before .before .before .float322 .result) (c .before .before .before .before .before .float32 .ensures) (c .before .before .before .before .float322 .ensures) false (c .before .before .before .if1 .left) (c .before .before .if2 .left) (c .before .if3 .left) (c .if4 .left)
+
+pub compare32-spec : {M : Type 1} → statement M
+compare32-spec =
+    tie.close
+    (tie.spec float32-requires float32-requires-2 returns returns-2 returns-3 returns-4 returns-5)

@@ -1,0 +1,47 @@
+-- The arithmetic of one step. Assumes nothing.
+use Prim.Native.Nat.{ℕ, _+_, _*_, _/_}
+use mathlib.Core.Bool.{Bool, true, false, _&&_, _||_, cond}
+use lib.Ieee.{Float, Format, add, sub, mul, div, neg, ofBits, toBits, nanBits, hid, ones}
+use Rattle.numbers.specs.Flush.{flush}
+use Rattle.numbers.specs.declared.arithmetic.Arithmetic.{Arithmetic}
+use Rattle.numbers.specs.declared.arithmetic.Arithmetic.the-variants.{MultiplyAccumulate, MultiplySubtract, NegateMultiplySubtract, NegateMultiplyAccumulate, Multiply, NegateMultiply, Add, Subtract, Divide}
+
+-- n and m are the operands and d the destination's old value. Each operator rounds once, so an accumulate rounds twice.
+abbrev pub apply : Format → Arithmetic → Float → Float → Float → Float
+apply f MultiplyAccumulate n m d = add f d (mul f n m)
+apply f MultiplySubtract n m d = sub f d (mul f n m)
+apply f NegateMultiplySubtract n m d = add f (neg d) (mul f n m)
+apply f NegateMultiplyAccumulate n m d = sub f (neg d) (mul f n m)
+apply f Multiply n m d = mul f n m
+apply f NegateMultiply n m d = neg (mul f n m)
+apply f Add n m d = add f n m
+apply f Subtract n m d = sub f n m
+apply f Divide n m d = div f n m
+
+-- the four kinds that read the old d
+abbrev pub accumulates : Arithmetic → Bool
+accumulates MultiplyAccumulate = true
+accumulates MultiplySubtract = true
+accumulates NegateMultiplySubtract = true
+accumulates NegateMultiplyAccumulate = true
+accumulates Multiply = false
+accumulates NegateMultiply = false
+accumulates Add = false
+accumulates Subtract = false
+accumulates Divide = false
+
+-- 0x7FC00000, 0x7FF8000000000000
+abbrev pub defaultNan : Format → ℕ
+defaultNan f = ones f * hid f + hid f / 2
+
+-- whether an operand that the kind reads is a NaN
+abbrev pub anyNan : Format → Arithmetic → ℕ → ℕ → ℕ → Bool
+anyNan f kind n m d = nanBits f n || (nanBits f m || (accumulates kind && nanBits f d))
+
+-- the result's word before flushing
+unfoldable pub applied : Format → Arithmetic → ℕ → ℕ → ℕ → ℕ
+applied f kind n m d = cond (anyNan f kind n m d) (defaultNan f) (toBits f (apply f kind (ofBits f n) (ofBits f m) (ofBits f d)))
+
+unfoldable pub arithmetic : Format → ℕ → Arithmetic → ℕ → ℕ → ℕ → ℕ
+unfolding applied
+arithmetic f control kind n m d = flush f control (applied f kind n m d)

@@ -1,0 +1,8 @@
+-- The crate's definitions: what each operation means on words, over the format. Assumes nothing.
+pub mod Arithmetic
+pub mod Compare
+pub mod Convert
+pub mod Flush
+pub mod Integer
+pub mod Root
+pub mod Rounding

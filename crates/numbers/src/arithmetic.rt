@@ -1,0 +1,164 @@
+// The arithmetic of one step. Each operator is a float's own and rounds once in its width.
+ghost use mathlib.Core.Path.{_≡_};
+ghost use lib.Ieee.{binary32, binary64};
+ghost use Rattle.numbers.specs.Arithmetic.{apply, accumulates, applied, arithmetic};
+use super::flush::flush32;
+use super::flush::flush64;
+use super::word::bits32;
+use super::word::bits64;
+use super::word::float32;
+use super::word::float64;
+
+// In the order of word bits 23, 21, 20, 6 as a number.
+pub enum Arithmetic {
+    // d + n * m
+    MultiplyAccumulate,
+    // d - n * m
+    MultiplySubtract,
+    // -d + n * m
+    NegateMultiplySubtract,
+    // -d - n * m
+    NegateMultiplyAccumulate,
+    Multiply,
+    NegateMultiply,
+    Add,
+    Subtract,
+    Divide,
+}
+
+// The operands n and m of one step, and the old d.
+pub struct Singles {
+    pub n: f32,
+    pub m: f32,
+    pub d: f32,
+}
+
+pub struct Doubles {
+    pub n: f64,
+    pub m: f64,
+    pub d: f64,
+}
+
+// Whether the kind reads the old d.
+pub fn reads_d(kind: Arithmetic) -> bool
+    ensures { λ r. ⌜ r ≡ accumulates kind ⌝ }
+{
+    match kind {
+        Arithmetic::MultiplyAccumulate => true,
+        Arithmetic::MultiplySubtract => true,
+        Arithmetic::NegateMultiplySubtract => true,
+        Arithmetic::NegateMultiplyAccumulate => true,
+        Arithmetic::Multiply => false,
+        Arithmetic::NegateMultiply => false,
+        Arithmetic::Add => false,
+        Arithmetic::Subtract => false,
+        Arithmetic::Divide => false,
+    }
+}
+
+pub fn apply32(kind: Arithmetic, x: Singles) -> f32
+    ensures { λ r. ⌜ r ≡ apply binary32 kind (x .n) (x .m) (x .d) ⌝ }
+{
+    let n = x.n;
+    let m = x.m;
+    let d = x.d;
+    match kind {
+        Arithmetic::MultiplyAccumulate => d + n * m,
+        Arithmetic::MultiplySubtract => d - n * m,
+        Arithmetic::NegateMultiplySubtract => -d + n * m,
+        Arithmetic::NegateMultiplyAccumulate => -d - n * m,
+        Arithmetic::Multiply => n * m,
+        Arithmetic::NegateMultiply => -(n * m),
+        Arithmetic::Add => n + m,
+        Arithmetic::Subtract => n - m,
+        Arithmetic::Divide => n / m,
+    }
+}
+
+pub fn apply64(kind: Arithmetic, x: Doubles) -> f64
+    ensures { λ r. ⌜ r ≡ apply binary64 kind (x .n) (x .m) (x .d) ⌝ }
+{
+    let n = x.n;
+    let m = x.m;
+    let d = x.d;
+    match kind {
+        Arithmetic::MultiplyAccumulate => d + n * m,
+        Arithmetic::MultiplySubtract => d - n * m,
+        Arithmetic::NegateMultiplySubtract => -d + n * m,
+        Arithmetic::NegateMultiplyAccumulate => -d - n * m,
+        Arithmetic::Multiply => n * m,
+        Arithmetic::NegateMultiply => -(n * m),
+        Arithmetic::Add => n + m,
+        Arithmetic::Subtract => n - m,
+        Arithmetic::Divide => n / m,
+    }
+}
+
+// The result before flushing. A NaN operand answers before any float is made, and old d is a float only where it is read.
+pub fn applied32(kind: Arithmetic, n: u32, m: u32, d: u32) -> u32
+    ensures { λ r. ⌜ r ≡ applied binary32 kind n m d ⌝ }
+{
+    if n % 0x8000_0000 > 0x7F80_0000 {
+        return 0x7FC0_0000;
+    }
+    if m % 0x8000_0000 > 0x7F80_0000 {
+        return 0x7FC0_0000;
+    }
+    if reads_d(kind) {
+        if d % 0x8000_0000 > 0x7F80_0000 {
+            return 0x7FC0_0000;
+        }
+        let x = Singles {
+            n: float32(n),
+            m: float32(m),
+            d: float32(d),
+        };
+        return bits32(apply32(kind, x));
+    }
+    let x = Singles {
+        n: float32(n),
+        m: float32(m),
+        d: 0.0,
+    };
+    bits32(apply32(kind, x))
+}
+
+pub fn applied64(kind: Arithmetic, n: u64, m: u64, d: u64) -> u64
+    ensures { λ r. ⌜ r ≡ applied binary64 kind n m d ⌝ }
+{
+    if n % 0x8000_0000_0000_0000 > 0x7FF0_0000_0000_0000 {
+        return 0x7FF8_0000_0000_0000;
+    }
+    if m % 0x8000_0000_0000_0000 > 0x7FF0_0000_0000_0000 {
+        return 0x7FF8_0000_0000_0000;
+    }
+    if reads_d(kind) {
+        if d % 0x8000_0000_0000_0000 > 0x7FF0_0000_0000_0000 {
+            return 0x7FF8_0000_0000_0000;
+        }
+        let x = Doubles {
+            n: float64(n),
+            m: float64(m),
+            d: float64(d),
+        };
+        return bits64(apply64(kind, x));
+    }
+    let x = Doubles {
+        n: float64(n),
+        m: float64(m),
+        d: 0.0,
+    };
+    bits64(apply64(kind, x))
+}
+
+pub fn arithmetic32(control: u32, kind: Arithmetic, n: u32, m: u32, d: u32) -> u32
+    ensures { λ r. ⌜ r ≡ arithmetic binary32 control kind n m d ⌝ }
+{
+    flush32(control, applied32(kind, n, m, d))
+}
+
+pub fn arithmetic64(control: u32, kind: Arithmetic, n: u64, m: u64, d: u64) -> u64
+    ensures { λ r. ⌜ r ≡ arithmetic binary64 control kind n m d ⌝ }
+{
+    flush64(control, applied64(kind, n, m, d))
+}

@@ -1,0 +1,80 @@
+// Conversions between the widths, by integer work on the bits.
+ghost use mathlib.Core.Path.{_≡_};
+ghost use Prim.Native.Nat.{_<_, _^_};
+ghost use lib.Ieee.{binary32, binary64, ofBits};
+ghost use Rattle.numbers.specs.Convert.{Lifted, IsNarrowed, narrow, widen};
+use super::flush::flush32;
+use super::rounding::Rounding;
+use super::rounding::Settled32;
+use super::rounding::settle32;
+use super::rounding::sign32;
+
+// How far up a number that is not 0 goes for its leading digit to be the 53rd.
+pub fn lift(t: u64) -> u64
+    requires { ⌜ (0 < t) × (t < 2 ^ 53) ⌝ }
+    ensures { λ r. ⌜ Lifted t r ⌝ }
+{
+    (u64::leading_zeros(t) as u64) - 11
+}
+
+// A single's word as the bits of the double of the same value. A subnormal is moved up by its leading zeros.
+pub fn widen(b: u32) -> u64
+    ensures { λ r. ⌜ r ≡ widen b ⌝ }
+{
+    let w = b as u64;
+    let sign = w / 0x8000_0000 * 0x8000_0000_0000_0000;
+    let field = w % 0x8000_0000 / 0x80_0000;
+    let t = w % 0x80_0000;
+    if field == 255 {
+        if t == 0 {
+            return sign + 0x7FF0_0000_0000_0000;
+        }
+        return 0x7FF8_0000_0000_0000;
+    }
+    if field > 0 {
+        return sign + ((field + 895) * 0x10_0000_0000_0000 + (0x80_0000 + t) * 0x2000_0000);
+    }
+    if t == 0 {
+        return sign;
+    }
+    let up = lift(t);
+    sign + ((925 - up) * 0x10_0000_0000_0000 + (t << up))
+}
+
+// A double's bits as the single that the mode asks for, rounded once.
+pub fn narrowed32(mode: Rounding, b: u64) -> Settled32
+    ensures { λ r. ⌜ IsNarrowed mode binary32 (ofBits binary64 b) (r .bits) (r .exact) ⌝ }
+{
+    let negative = b >= 0x8000_0000_0000_0000;
+    let field = b % 0x8000_0000_0000_0000 / 0x10_0000_0000_0000;
+    let t = b % 0x10_0000_0000_0000;
+    if field == 2047 {
+        if t == 0 {
+            return Settled32 {
+                bits: (sign32(negative) + 0x7F80_0000) as u32,
+                exact: true,
+            };
+        }
+        return Settled32 {
+            bits: 0x7FC0_0000,
+            exact: true,
+        };
+    }
+    if field == 0 {
+        return settle32(mode, negative, t * 512, 1126);
+    }
+    settle32(
+        mode,
+        negative,
+        (0x10_0000_0000_0000 + t) * 512,
+        field + 1125,
+    )
+}
+
+// The nearest single, flushed as a single.
+pub fn narrow(control: u32, b: u64) -> u32
+    ensures { λ r. ⌜ r ≡ narrow control b ⌝ }
+{
+    let r = narrowed32(Rounding::Nearest, b);
+    flush32(control, r.bits)
+}
