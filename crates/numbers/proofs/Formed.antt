@@ -23,7 +23,7 @@ use Rattle.numbers.proofs.Flushing.{NotSubnormal}
 
 -- ---- the digits that are kept of a whole part w
 
-lead-digit : (f : Format) (w : ℕ) → Lead f (dropped f w) (w / 2 ^ dropped f w)
+pub lead-digit : (f : Format) (w : ℕ) → Lead f (dropped f w) (w / 2 ^ dropped f w)
 lead-digit f w = go (decLt (prec f) (size w))
   where
     last : (z p : ℕ) → p < z → z - 1 < z
@@ -154,13 +154,13 @@ module _ (mode : Rounding) (f : Format) (num den : ℕ) (D : 0 < den) where
   abbrev root-n : ℕ
   root-n = num * 2 ^ (low f + low f)
 
-  abbrev root-k : ℕ
+  abbrev pub root-k : ℕ
   root-k = dropped f (isqrt (root-n / den))
 
   abbrev root-u : ℕ
   root-u = den * 2 ^ (root-k + root-k)
 
-  abbrev root-c : ℕ
+  abbrev pub root-c : ℕ
   root-c = rootCut mode root-n root-u
 
   root-whole : isqrt (root-n / den) / 2 ^ root-k ≡ isqrt (root-n / root-u)

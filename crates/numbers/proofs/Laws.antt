@@ -90,7 +90,7 @@ zero-word f s e = (subst (λ (x : ℕ). x < 2 * top f) (sym is) (word-lt f s 0 s
 -- ---- roots
 
 -- the smallest value is no larger than a value that is not 0
-reaches : (f : Format) (s : Bool) (m : ℕ) (e : ℤ) → T (fits f (fin s (suc m) e)) → down e ≤ suc m * up e * 2 ^ low f
+pub reaches : (f : Format) (s : Bool) (m : ℕ) (e : ℤ) → T (fits f (fin s (suc m) e)) → down e ≤ suc m * up e * 2 ^ low f
 unfolding fits
 reaches f s m e t =
     let a : Bool = eqb (suc m % 2) 1 in

@@ -16,3 +16,5 @@ pub mod RootDigits
 pub mod Sqrt
 pub mod Formed
 pub mod Laws
+pub mod Sight
+pub mod Values
