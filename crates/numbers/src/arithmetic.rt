@@ -63,15 +63,15 @@ pub fn apply32(kind: Arithmetic, x: Singles) -> f32
     let m = x.m;
     let d = x.d;
     match kind {
-        Arithmetic::MultiplyAccumulate => d + n * m,
-        Arithmetic::MultiplySubtract => d - n * m,
-        Arithmetic::NegateMultiplySubtract => -d + n * m,
-        Arithmetic::NegateMultiplyAccumulate => -d - n * m,
-        Arithmetic::Multiply => n * m,
-        Arithmetic::NegateMultiply => -(n * m),
-        Arithmetic::Add => n + m,
-        Arithmetic::Subtract => n - m,
-        Arithmetic::Divide => n / m,
+        Arithmetic::MultiplyAccumulate => d + n * m, // FMACS
+        Arithmetic::MultiplySubtract => d - n * m, // FNMACS
+        Arithmetic::NegateMultiplySubtract => -d + n * m, // FMSCS
+        Arithmetic::NegateMultiplyAccumulate => -d - n * m, // FNMSCS
+        Arithmetic::Multiply => n * m, // FMULS
+        Arithmetic::NegateMultiply => -(n * m), // FNMULS
+        Arithmetic::Add => n + m, // FADDS
+        Arithmetic::Subtract => n - m, // FSUBS
+        Arithmetic::Divide => n / m, // FDIVS
     }
 }
 
@@ -82,15 +82,15 @@ pub fn apply64(kind: Arithmetic, x: Doubles) -> f64
     let m = x.m;
     let d = x.d;
     match kind {
-        Arithmetic::MultiplyAccumulate => d + n * m,
-        Arithmetic::MultiplySubtract => d - n * m,
-        Arithmetic::NegateMultiplySubtract => -d + n * m,
-        Arithmetic::NegateMultiplyAccumulate => -d - n * m,
-        Arithmetic::Multiply => n * m,
-        Arithmetic::NegateMultiply => -(n * m),
-        Arithmetic::Add => n + m,
-        Arithmetic::Subtract => n - m,
-        Arithmetic::Divide => n / m,
+        Arithmetic::MultiplyAccumulate => d + n * m, // FMACD
+        Arithmetic::MultiplySubtract => d - n * m, // FNMACD
+        Arithmetic::NegateMultiplySubtract => -d + n * m, // FMSCD
+        Arithmetic::NegateMultiplyAccumulate => -d - n * m, // FNMSCD
+        Arithmetic::Multiply => n * m, // FMULD
+        Arithmetic::NegateMultiply => -(n * m), // FNMULD
+        Arithmetic::Add => n + m, // FADDD
+        Arithmetic::Subtract => n - m, // FSUBD
+        Arithmetic::Divide => n / m, // FDIVD
     }
 }
 

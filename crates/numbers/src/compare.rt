@@ -25,16 +25,16 @@ pub fn compare32(a: u32, b: u32) -> u32
 pub fn compare64(a: u64, b: u64) -> u32
     ensures { λ r. ⌜ r ≡ compareFlags binary64 a b ⌝ }
 {
-    let x = float64(a);
-    let y = float64(b);
-    if x != x {
+    let u = float64(a);
+    let v = float64(b);
+    if u != u {
         return 0b0011;
     }
-    if y != y {
+    if v != v {
         return 0b0011;
     }
-    if x == y {
+    if u == v {
         return 0b0110;
     }
-    if x < y { 0b1000 } else { 0b0010 }
+    if u < v { 0b1000 } else { 0b0010 }
 }

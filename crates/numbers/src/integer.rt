@@ -107,12 +107,8 @@ pub fn to_integer64(mode: Rounding, signed: bool, b: u64) -> u32
     if field > 1054 {
         return clamp(signed, negative, 0x1_0000_0000);
     }
-    let c = cut(
-        mode,
-        negative,
-        0x10_0000_0000_0000 + t,
-        least(1075 - field, 63),
-    );
+    let m = 0x10_0000_0000_0000 + t;
+    let c = cut(mode, negative, m, least(1075 - field, 63));
     clamp(signed, negative, c.kept)
 }
 

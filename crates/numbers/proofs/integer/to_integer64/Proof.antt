@@ -32,8 +32,8 @@ clamp-requires-3 c κs = search needs
 returns-4 : tie.Need-returns-4
 returns-4 c = int-large (c .before .before .before .before .args .mode) (c .before .before .before .before .args .signed) (c .before .before .before .before .args .b) _ (c .before .before .if3 .left) (c .before .before .before .if1 .left) (c .before .if4 .taken) (c .clamp3 .ensures)
 
-add-cut : tie.Need-add-cut
-add-cut c = search needs
+add-m : tie.Need-add-m
+add-m c = search needs
 
 sub-least : tie.Need-sub-least
 sub-least c = search needs
@@ -62,7 +62,7 @@ to-integer64-spec =
     returns-3
     clamp-requires-3
     returns-4
-    add-cut
+    add-m
     sub-least
     least-requires
     cut-requires-2

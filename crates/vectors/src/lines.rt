@@ -1,0 +1,161 @@
+// A file of lines of hexadecimal numbers, a byte at a time.
+use super::answers::Work;
+use super::answers::answer;
+use super::answers::expected;
+use libc::STDOUT_FILENO;
+
+// What a file's lines hold: so many operands and the result, for one operation and one control word; with 0 operands
+// each line has its own operation, control word, two operands, old d and result.
+pub struct Sort {
+    pub operands: u64,
+    pub op: u64,
+    pub control: u32,
+}
+
+// A line's numbers so far, how many lines were compared, and how many of them differ.
+pub struct Tally {
+    pub numbers: [u64; 8],
+    pub at: usize,
+    pub comment: bool,
+    pub compared: u64,
+    pub differ: u64,
+}
+
+pub fn start() -> Tally {
+    Tally {
+        numbers: [0; 8],
+        at: 0,
+        comment: false,
+        compared: 0,
+        differ: 0,
+    }
+}
+
+// A line's end: the next one starts.
+fn next(compared: u64, differ: u64) -> Tally {
+    Tally {
+        numbers: [0; 8],
+        at: 0,
+        comment: false,
+        compared,
+        differ,
+    }
+}
+
+fn more(x: u64) -> u64 {
+    if x < 0xFFFF_FFFF { x + 1 } else { x }
+}
+
+fn low(x: u64) -> u32 {
+    (x % 0x1_0000_0000) as u32
+}
+
+fn work(sort: Sort, v: [u64; 8]) -> Work {
+    if sort.operands == 0 {
+        return Work {
+            op: v[0],
+            control: low(v[1]),
+            n: v[2],
+            m: v[3],
+            d: v[4],
+        };
+    }
+    Work {
+        op: sort.op,
+        control: sort.control,
+        n: v[0],
+        m: v[1],
+        d: 0,
+    }
+}
+
+fn result(sort: Sort, v: [u64; 8]) -> u64 {
+    if sort.operands == 0 {
+        return v[5];
+    }
+    if sort.operands == 1 {
+        return v[1];
+    }
+    v[2]
+}
+
+fn show(name: &[u8], n: u64) {
+    io::write_all(STDOUT_FILENO, name);
+    io::print_hex(STDOUT_FILENO, n, 16);
+}
+
+fn differs(w: Work, want: u64, got: u64) {
+    show(b"differs: operation ", w.op);
+    show(b" control ", w.control as u64);
+    show(b" n ", w.n);
+    show(b" m ", w.m);
+    show(b" d ", w.d);
+    show(b" expected ", want);
+    show(b" got ", got);
+    io::write_all(STDOUT_FILENO, b"\n");
+}
+
+fn compare(sort: Sort, numbers: [u64; 8], compared: u64, differ: u64) -> Tally {
+    let w = work(sort, numbers);
+    let want = expected(w.op, result(sort, numbers));
+    let got = answer(w);
+    if want == got {
+        return next(more(compared), differ);
+    }
+    differs(w, want, got);
+    next(more(compared), more(differ))
+}
+
+// A digit's value, and 16 for what is none.
+fn digit(b: u8) -> u64 {
+    let x = b as u64;
+    if x < 48 {
+        return 16;
+    }
+    if x < 58 {
+        return x - 48;
+    }
+    if x < 65 {
+        return 16;
+    }
+    if x < 71 {
+        return x - 55;
+    }
+    16
+}
+
+// One byte more.
+pub fn feed(sort: Sort, t: Tally, b: u8) -> Tally {
+    let comment = t.comment;
+    let numbers = t.numbers;
+    let at = t.at;
+    if b == 10u8 {
+        if comment {
+            return next(t.compared, t.differ);
+        }
+        return compare(sort, numbers, t.compared, t.differ);
+    }
+    if comment {
+        return t;
+    }
+    let mut r = t;
+    if b == 35u8 {
+        r.comment = true;
+        return r;
+    }
+    if b == 32u8 {
+        if at < 7 {
+            r.at = at + 1;
+        }
+        return r;
+    }
+    let x = digit(b);
+    if x < 16 {
+        let mut v = numbers;
+        if at < 8 {
+            v[at] = v[at] % 0x1000_0000_0000_0000 * 16 + x;
+        }
+        r.numbers = v;
+    }
+    r
+}
