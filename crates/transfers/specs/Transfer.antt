@@ -1,13 +1,18 @@
 -- The meaning of a register transfer (vfp.rs `coprocessor_register`). Bits 11:8 are not looked at.
 use Prim.Native.Nat.{ℕ, _+_, _*_, _/_, _%_, _^_}
-use mathlib.Core.Bool.{Bool, cond}
+use mathlib.Core.Bool.{Bool, true, false, cond}
 use mathlib.Core.List.{[], _∷_}
 use lib.Dec.{eqb}
 use Rattle.bits.specs.Field.{field, bitOf}
 use Rattle.machine.specs.Registers.{sregOf}
 use Rattle.machine.specs.Place.{Place, core, flags, control, exc, nzcv, sWord}
 use Rattle.meaning.specs.Step.{Write, Step, fst, snd, copy, constant, once, nothing}
-use Rattle.meaning.specs.Tree.{Tree, go, branch}
+use Rattle.meaning.specs.Tree.{Tree, Next, on, last, go, branch}
+
+-- what follows a transfer, by whether it branched
+abbrev pub nextOf : Bool → Next
+nextOf true = last
+nextOf false = on
 
 -- FPSID: a VFPv2 of ARM's
 abbrev pub fpsid : ℕ
