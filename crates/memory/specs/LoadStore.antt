@@ -11,6 +11,11 @@ use Rattle.machine.specs.Place.{Place, core, word, sWord, lowWord, highWord}
 use Rattle.meaning.specs.Step.{Write, Step, Act, copy, grow, once, nothing}
 use Rattle.meaning.specs.Tree.{Tree, go, ask}
 
+-- the precision of coprocessor 11, and of 10
+abbrev pub formatOf : Bool → Format
+formatOf true = binary64
+formatOf false = binary32
+
 -- p takes what q holds on a load (bit 20), and q what p holds on a store
 abbrev pub moved : Bool → Place → Place → Write
 moved true p q = copy p q

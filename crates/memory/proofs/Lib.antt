@@ -1,0 +1,3 @@
+-- Laws of the trees of loads and stores.
+
+mod Trees
