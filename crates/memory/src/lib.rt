@@ -1,8 +1,8 @@
 // Loads and stores (vfp.rs `coprocessor_load_store`, LDC and STC on coprocessors 10 and 11), over lent registers and a lent window.
-pub mod access;
 pub mod address;
+pub mod halves;
 pub mod pair;
-pub mod several;
+pub mod words;
 
 ghost use mathlib.Core.Path.{_≡_};
 ghost use Rattle.machine.specs.declared.Machine.{Machine};
@@ -73,18 +73,10 @@ fn transfer(s: &mut [u32; 32], window: &mut [u32], base: u32, op: u32, double: b
     let vd = bits(op, 12, 15);
     let count = address::count_of(op, double);
     if double {
-        let first = dreg(vd, d_bit);
-        if bit(op, 20) {
-            several::load_doubles(s, &window[..], base, start, first, count);
-            return;
-        }
-        several::store_doubles(s, window, base, start, first, count);
+        // Doubles in turn are their words in turn.
+        let first = halves::low_word(dreg(vd, d_bit));
+        words::move_words(s, window, base, op, start, first, 2 * count);
         return;
     }
-    let first = sreg(vd, d_bit);
-    if bit(op, 20) {
-        several::load_singles(s, &window[..], base, start, first, count);
-        return;
-    }
-    several::store_singles(s, window, base, start, first, count);
+    words::move_words(s, window, base, op, start, sreg(vd, d_bit), count);
 }

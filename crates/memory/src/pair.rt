@@ -8,8 +8,8 @@ ghost use Rattle.machine.specs.Machine.{withS, withR};
 ghost use Rattle.machine.specs.Place.{state, sWord};
 ghost use Rattle.meaning.specs.Step.{step};
 ghost use Rattle.memory.specs.LoadStore.{formatOf, pairOf, pairStep};
-use super::access::high_word;
-use super::access::low_word;
+use super::halves::high_word;
+use super::halves::low_word;
 use bits::field::bit;
 use bits::field::bits;
 use machine::registers::Single;
@@ -25,15 +25,15 @@ pub fn move_pair(s: &mut [u32; 32], r: &mut [u32; 16], op: u32, double: bool)
     let vm = op % 16;
     if double {
         let dm = dreg(vm, m_bit);
-        move_words(s, r, op, low_word(dm), high_word(dm));
+        move_both(s, r, op, low_word(dm), high_word(dm));
         return;
     }
     let sm = sreg(vm, m_bit);
-    move_words(s, r, op, sm, Single(sm.0 + 1));
+    move_both(s, r, op, sm, Single(sm.0 + 1));
 }
 
 // The words from or to the core registers of bits 15:12 and 19:16.
-fn move_words(s: &mut [u32; 32], r: &mut [u32; 16], op: u32, first: Single, second: Single)
+fn move_both(s: &mut [u32; 32], r: &mut [u32; 16], op: u32, first: Single, second: Single)
     ensures { λ _. ⌜ ((q : Machine) (v : List ℕ) → state (withS (withR q (now (r .exit))) (now (s .exit))) v ≡ step (pairOf (bitOf op 20) op (sWord (first .0)) (sWord (second .0))) (state (withS (withR q (now (r .entry))) (now (s .entry))) v)) ⌝ }
 {
     let rt = bits(op, 12, 15) as usize;

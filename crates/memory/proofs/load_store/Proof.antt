@@ -2,9 +2,9 @@
 use denote.Ref.{now}
 use mathlib.Core.Path.{sym, _∙_}
 use borrow.Author.Needs.{needs}
-use Rattle.memory.proofs.Trees.{paired, accessed}
 use Rattle.machine.specs.Place.{state}
 use Rattle.machine.specs.Machine.{withS, withR}
+use Rattle.memory.proofs.Trees.{paired, accessed}
 use Rattle.memory.proofs.load_store.Statement.{statement}
 use Rattle.memory.proofs.load_store.Tie as tie
 

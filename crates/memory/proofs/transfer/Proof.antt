@@ -1,6 +1,14 @@
 -- `memory::transfer` meets its contract.
+use denote.Ref.{now}
+use lib.Ieee.{binary64}
 use mathlib.Core.Path.{sym, _∙_}
 use borrow.Author.Needs.{needs}
+use Rattle.machine.specs.Place.{state}
+use Rattle.machine.specs.Machine.{withS}
+use Rattle.machine.specs.Registers.{dregOf}
+use Rattle.bits.specs.Field.{field, bitOf}
+use Rattle.memory.specs.LoadStore.{countOf}
+use Rattle.memory.proofs.Doubles.{doubles}
 use Rattle.memory.proofs.transfer.Statement.{statement}
 use Rattle.memory.proofs.transfer.Tie as tie
 
@@ -16,50 +24,32 @@ count-of-requires c κs = search needs
 dreg-requires : tie.Need-dreg-requires
 dreg-requires c κs = search needs
 
-bit-requires : tie.Need-bit-requires
-bit-requires c κs = search needs
+low-word-requires : tie.Need-low-word-requires
+low-word-requires c κs = search needs
 
-load-doubles-requires : tie.Need-load-doubles-requires
-load-doubles-requires c κs = search needs
+mul-move-words : tie.Need-mul-move-words
+mul-move-words c = search needs
+
+move-words-requires : tie.Need-move-words-requires
+move-words-requires c κs = search needs
 
 same-length : tie.Need-same-length
 same-length c = search needs
 
 returns : tie.Need-returns
-returns c = λ q. rw (c .before .before .before .before .before .before .if1 .taken, sym (c .before .before .before .before .bit .ensures) ∙ c .before .before .before .if2 .taken) (rw (c .before .before .before .before .before .before .before .count-of .ensures .0, c .before .before .before .before .before .dreg .ensures, c .before .before .before .before .before .before .before .before .bits2 .ensures, c .before .before .before .before .before .before .before .before .before .bits .ensures, c .before .before .before .before .before .before .if1 .taken) at (c .load-doubles .ensures q))
+returns c = λ q. rw (c .before .before .before .before .before .before .before .if1 .taken) ((rw (c .before .before .before .before .before .before .before .before .count-of .ensures .0, c .before .before .before .before .before .low-word .ensures, c .before .before .before .before .before .before .dreg .ensures, c .before .before .before .before .before .before .before .before .before .bits2 .ensures, c .before .before .before .before .before .before .before .before .before .before .bits .ensures, c .before .before .before .before .before .before .before .if1 .taken) at (c .before .before .move-words .ensures q)) ∙ sym (doubles (bitOf (c .before .before .before .before .before .before .before .before .before .before .before .before .args .op) 20) (c .before .before .before .before .before .before .before .before .before .before .before .before .args .base) (dregOf (field (c .before .before .before .before .before .before .before .before .before .before .before .before .args .op) 12 15) (field (c .before .before .before .before .before .before .before .before .before .before .before .before .args .op) 22 22)) (c .before .before .before .before .before .before .before .before .before .before .before .before .args .start) (countOf binary64 (c .before .before .before .before .before .before .before .before .before .before .before .before .args .op)) (state (withS q (now (c .before .before .before .before .before .before .before .before .before .before .before .before .args .s))) (now (c .before .before .before .before .before .before .before .before .before .before .before .before .args .window)))))
 
-store-doubles-requires : tie.Need-store-doubles-requires
-store-doubles-requires c κs = search needs
+sreg-requires : tie.Need-sreg-requires
+sreg-requires c κs = search needs
+
+move-words-requires-2 : tie.Need-move-words-requires-2
+move-words-requires-2 c κs = search needs
 
 same-length-2 : tie.Need-same-length-2
 same-length-2 c = search needs
 
 returns-2 : tie.Need-returns-2
-returns-2 c = λ q. rw (c .before .before .before .before .before .before .before .before .if1 .taken, sym (c .before .before .before .before .before .before .bit .ensures) ∙ c .before .before .before .before .before .if2 .left) (rw (c .before .before .before .before .before .before .before .before .before .count-of .ensures .0, c .before .before .before .before .before .before .before .dreg .ensures, c .before .before .before .before .before .before .before .before .before .before .bits2 .ensures, c .before .before .before .before .before .before .before .before .before .before .before .bits .ensures, c .before .before .before .before .before .before .before .before .if1 .taken) at (c .before .before .store-doubles .ensures q))
-
-sreg-requires : tie.Need-sreg-requires
-sreg-requires c κs = search needs
-
-bit-requires-2 : tie.Need-bit-requires-2
-bit-requires-2 c κs = search needs
-
-load-singles-requires : tie.Need-load-singles-requires
-load-singles-requires c κs = search needs
-
-same-length-3 : tie.Need-same-length-3
-same-length-3 c = search needs
-
-returns-3 : tie.Need-returns-3
-returns-3 c = λ q. rw (c .before .before .before .before .before .before .if1 .left, sym (c .before .before .before .before .bit2 .ensures) ∙ c .before .before .before .if3 .taken) (rw (c .before .before .before .before .before .before .before .count-of .ensures .0, c .before .before .before .before .before .sreg .ensures, c .before .before .before .before .before .before .before .before .bits2 .ensures, c .before .before .before .before .before .before .before .before .before .bits .ensures, c .before .before .before .before .before .before .if1 .left) at (c .load-singles .ensures q))
-
-store-singles-requires : tie.Need-store-singles-requires
-store-singles-requires c κs = search needs
-
-same-length-4 : tie.Need-same-length-4
-same-length-4 c = search needs
-
-returns-4 : tie.Need-returns-4
-returns-4 c = λ q. rw (c .before .before .before .before .before .before .before .before .if1 .left, sym (c .before .before .before .before .before .before .bit2 .ensures) ∙ c .before .before .before .before .before .if3 .left) (rw (c .before .before .before .before .before .before .before .before .before .count-of .ensures .0, c .before .before .before .before .before .before .before .sreg .ensures, c .before .before .before .before .before .before .before .before .before .before .bits2 .ensures, c .before .before .before .before .before .before .before .before .before .before .before .bits .ensures, c .before .before .before .before .before .before .before .before .if1 .left) at (c .before .before .store-singles .ensures q))
+returns-2 c = λ q. rw (c .before .before .before .before .before .before .if1 .left) (rw (c .before .before .before .before .before .before .before .count-of .ensures .0, c .before .before .before .sreg .ensures, c .before .before .before .before .before .before .before .before .bits2 .ensures, c .before .before .before .before .before .before .before .before .before .bits .ensures, c .before .before .before .before .before .before .if1 .left) at (c .before .before .move-words2 .ensures q))
 
 pub transfer-spec : {M : Type 1} → statement M
 transfer-spec =
@@ -69,18 +59,12 @@ transfer-spec =
     bits-requires-2
     count-of-requires
     dreg-requires
-    bit-requires
-    load-doubles-requires
+    low-word-requires
+    mul-move-words
+    move-words-requires
     same-length
     returns
-    store-doubles-requires
-    same-length-2
-    returns-2
     sreg-requires
-    bit-requires-2
-    load-singles-requires
-    same-length-3
-    returns-3
-    store-singles-requires
-    same-length-4
-    returns-4)
+    move-words-requires-2
+    same-length-2
+    returns-2)

@@ -1,8 +1,8 @@
--- `memory::pair::move_words` meets its contract.
+-- `memory::pair::move_both` meets its contract.
 use mathlib.Core.Path.{sym, _∙_}
 use borrow.Author.Needs.{needs}
-use Rattle.memory.proofs.pair.move_words.Statement.{statement}
-use Rattle.memory.proofs.pair.move_words.Tie as tie
+use Rattle.memory.proofs.pair.move_both.Statement.{statement}
+use Rattle.memory.proofs.pair.move_both.Tie as tie
 
 bits-requires : tie.Need-bits-requires
 bits-requires c κs = search needs
@@ -61,8 +61,8 @@ set-single-requires-2 c κs = search needs
 returns-2 : tie.Need-returns-2
 returns-2 c = λ q v. rw (sym (c .before .before .before .before .before .before .before .bit .ensures) ∙ c .before .before .before .before .before .before .if1 .left, c .set-single2 .ensures, c .before .before .before .set-single .ensures, c .before .before .before .before .before .before .before .before .bits2 .ensures, c .before .before .before .before .before .before .before .before .before .bits .ensures)
 
-pub move-words-spec : {M : Type 1} → statement M
-move-words-spec =
+pub move-both-spec : {M : Type 1} → statement M
+move-both-spec =
     tie.close
     (tie.spec
     bits-requires
