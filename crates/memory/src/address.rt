@@ -37,17 +37,14 @@ fn several_of(op: u32, double: bool) -> u32
     op % 256
 }
 
-// The first address, from the base register's value.
+// The first address: base + or - offset, but the base itself where U is set and more than one register may move.
 pub fn start_of(op: u32, from: u32) -> u32
     ensures { λ a. ⌜ a ≡ startOf op from ⌝ }
 {
-    if bit(op, 23) {
-        if one_only(op) {
-            return plus(from, op % 256 * 4);
-        }
+    if bit(op, 23) & !one_only(op) {
         return from;
     }
-    minus(from, op % 256 * 4)
+    offset_from(op, from)
 }
 
 // base + or - offset, by U.

@@ -1,6 +1,10 @@
 -- `memory::address::start_of` meets its contract.
-use mathlib.Core.Path.{sym, _∙_}
+use Prim.Native.Nat.{_-_, _^_}
+use mathlib.Core.Path.{_∙_}
 use borrow.Author.Needs.{needs}
+use Rattle.memory.proofs.Start.{at-base, at-offset}
+use Rattle.bits.specs.Field.{bitOf}
+use Rattle.memory.specs.LoadStore.{offset, oneOnly}
 use Rattle.memory.proofs.address.start_of.Statement.{statement}
 use Rattle.memory.proofs.address.start_of.Tie as tie
 
@@ -10,37 +14,15 @@ bit-requires c κs = search needs
 one-only-requires : tie.Need-one-only-requires
 one-only-requires c κs = search needs
 
-mul-plus : tie.Need-mul-plus
-mul-plus c = search needs
-
-plus-requires : tie.Need-plus-requires
-plus-requires c κs = search needs
-
 returns : tie.Need-returns
-returns c = rw (sym (c .before .before .before .before .bit .ensures) ∙ c .before .before .before .if1 .taken, sym (c .before .before .one-only .ensures) ∙ c .before .if2 .taken) (c .plus .ensures)
+returns c = at-base (c .before .before .before .args .from) (offset (c .before .before .before .args .op)) (2 ^ 32 - offset (c .before .before .before .args .op)) (bitOf (c .before .before .before .args .op) 23) (oneOnly (c .before .before .before .args .op)) (rw (c .before .before .bit .ensures, c .before .one-only .ensures) at (c .if1 .taken))
+
+offset-from-requires : tie.Need-offset-from-requires
+offset-from-requires c κs = search needs
 
 returns-2 : tie.Need-returns-2
-returns-2 c = rw (sym (c .before .before .before .bit .ensures) ∙ c .before .before .if1 .taken, sym (c .before .one-only .ensures) ∙ c .if2 .left)
-
-mul-minus : tie.Need-mul-minus
-mul-minus c = search needs
-
-minus-requires : tie.Need-minus-requires
-minus-requires c κs = search needs
-
-returns-3 : tie.Need-returns-3
-returns-3 c = rw (sym (c .before .before .bit .ensures) ∙ c .before .if1 .left) (c .minus .ensures)
+returns-2 c = c .offset-from .ensures ∙ at-offset (c .before .before .before .before .args .from) (offset (c .before .before .before .before .args .op)) (2 ^ 32 - offset (c .before .before .before .before .args .op)) (bitOf (c .before .before .before .before .args .op) 23) (oneOnly (c .before .before .before .before .args .op)) (rw (c .before .before .before .bit .ensures, c .before .before .one-only .ensures) at (c .before .if1 .left))
 
 pub start-of-spec : {M : Type 1} → statement M
 start-of-spec =
-    tie.close
-    (tie.spec
-    bit-requires
-    one-only-requires
-    mul-plus
-    plus-requires
-    returns
-    returns-2
-    mul-minus
-    minus-requires
-    returns-3)
+    tie.close (tie.spec bit-requires one-only-requires returns offset-from-requires returns-2)
