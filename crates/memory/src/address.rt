@@ -1,0 +1,65 @@
+// The addresses and the number of registers that a load or store goes by.
+ghost use mathlib.Core.Path.{_≡_};
+ghost use mathlib.Core.Bool.{cond};
+ghost use Prim.Native.Nat.{_+_, _-_, _%_, _≤_, _^_};
+ghost use Rattle.bits.specs.Field.{bitOf};
+ghost use Rattle.memory.specs.LoadStore.{formatOf, offset, oneOnly, several, countOf, startOf};
+use bits::field::bit;
+use machine::window::minus;
+
+// P set and W clear: VLDR and VSTR, one register at base + or - offset.
+fn one_only(op: u32) -> bool
+    ensures { λ b. ⌜ b ≡ oneOnly op ⌝ }
+{
+    bit(op, 24) & !bit(op, 21)
+}
+
+pub fn count_of(op: u32, double: bool) -> u32
+    ensures { λ n. ⌜ (n ≡ countOf (formatOf double) op) × (n ≤ 255) ⌝ }
+{
+    if one_only(op) {
+        return 1;
+    }
+    let count = several_of(op, double);
+    if count == 0 {
+        return 1;
+    }
+    count
+}
+
+// imm8 words, halved down for doubles.
+fn several_of(op: u32, double: bool) -> u32
+    ensures { λ n. ⌜ (n ≡ several (formatOf double) op) × (n ≤ 255) ⌝ }
+{
+    if double {
+        return op % 256 / 2;
+    }
+    op % 256
+}
+
+// The first address: base + or - offset, but the base itself where U is set and more than one register may move.
+pub fn start_of(op: u32, from: u32) -> u32
+    ensures { λ a. ⌜ a ≡ startOf op from ⌝ }
+{
+    if bit(op, 23) & !one_only(op) {
+        return from;
+    }
+    offset_from(op, from)
+}
+
+// base + or - offset, by U.
+pub fn offset_from(op: u32, from: u32) -> u32
+    ensures { λ a. ⌜ a ≡ (from + cond (bitOf op 23) (offset op) (2 ^ 32 - offset op)) % 2 ^ 32 ⌝ }
+{
+    if bit(op, 23) {
+        return plus(from, op % 256 * 4);
+    }
+    minus(from, op % 256 * 4)
+}
+
+// a + b, modulo 2^32.
+pub fn plus(a: u32, b: u32) -> u32
+    ensures { λ r. ⌜ r ≡ (a + b) % 2 ^ 32 ⌝ }
+{
+    ((a as u64 + b as u64) % 0x1_0000_0000) as u32
+}

@@ -1,0 +1,82 @@
+// Loads and stores (vfp.rs `coprocessor_load_store`, LDC and STC on coprocessors 10 and 11), over lent registers and a lent window.
+pub mod address;
+pub mod halves;
+pub mod pair;
+pub mod words;
+
+ghost use mathlib.Core.Path.{_≡_};
+ghost use Rattle.machine.specs.declared.Machine.{Machine};
+ghost use Rattle.machine.specs.Machine.{withS, withR};
+ghost use Rattle.machine.specs.Registers.{regOf};
+ghost use Rattle.machine.specs.Place.{state};
+ghost use Rattle.bits.specs.Field.{field, bitOf};
+ghost use Rattle.meaning.specs.Step.{after};
+ghost use Rattle.meaning.specs.Tree.{out, plain, on};
+ghost use Rattle.memory.specs.LoadStore.{formatOf, countOf, accessAt, accessTree, loadStoreTree};
+use bits::field::bit;
+use bits::field::bits;
+use machine::registers::dreg;
+use machine::registers::sreg;
+
+pub fn coprocessor_load_store(
+    s: &mut [u32; 32],
+    r: &mut [u32; 16],
+    window: &mut [u32],
+    base: u32,
+    op: u32,
+)
+    ensures { λ _. ⌜ ((q : Machine) → out (state (withS (withR q (now (r .exit))) (now (s .exit))) (now (window .exit))) on ≡ plain (loadStoreTree base op) (state (withS (withR q (now (r .entry))) (now (s .entry))) (now (window .entry)))) ⌝ }
+{
+    let coproc = bits(op, 8, 11);
+    if coproc == 10 {
+        load_store(s, r, window, base, op, false);
+        return;
+    }
+    if coproc == 11 {
+        load_store(s, r, window, base, op, true);
+        return;
+    }
+}
+
+// Of either precision. The base register is read and written back first: neither loads nor stores touch core registers.
+fn load_store(
+    s: &mut [u32; 32],
+    r: &mut [u32; 16],
+    window: &mut [u32],
+    base: u32,
+    op: u32,
+    double: bool,
+)
+    ensures { λ _. ⌜ ((q : Machine) → out (state (withS (withR q (now (r .exit))) (now (s .exit))) (now (window .exit))) on ≡ plain (accessTree (formatOf double) base op) (state (withS (withR q (now (r .entry))) (now (s .entry))) (now (window .entry)))) ⌝ }
+{
+    // bits 27:21 = 1100010 is the 64-bit transfer space.
+    if bits(op, 21, 27) == 0b110_0010 {
+        pair::move_pair(s, r, op, double);
+        return;
+    }
+    let rn = bits(op, 16, 19) as usize;
+    let from = r[rn];
+    let start = address::start_of(op, from);
+    if bit(op, 21) {
+        r[rn] = address::offset_from(op, from);
+        transfer(s, window, base, op, double, start);
+        return;
+    }
+    transfer(s, window, base, op, double, start);
+}
+
+// The registers of the transfer in turn, from an address on.
+fn transfer(s: &mut [u32; 32], window: &mut [u32], base: u32, op: u32, double: bool, start: u32)
+    ensures { λ _. ⌜ ((q : Machine) → state (withS q (now (s .exit))) (now (window .exit)) ≡ after (countOf (formatOf double) op) (accessAt (formatOf double) (bitOf op 20) base (regOf (formatOf double) (field op 12 15) (field op 22 22)) start) (state (withS q (now (s .entry))) (now (window .entry)))) ⌝ }
+{
+    let d_bit = bits(op, 22, 22);
+    let vd = bits(op, 12, 15);
+    let count = address::count_of(op, double);
+    if double {
+        // Doubles in turn are their words in turn.
+        let first = halves::low_word(dreg(vd, d_bit));
+        words::move_words(s, window, base, op, start, first, 2 * count);
+        return;
+    }
+    words::move_words(s, window, base, op, start, sreg(vd, d_bit), count);
+}

@@ -1,0 +1,58 @@
+// Singles in turn, from or to the words from an address on. They go on at s0 after s31, addresses at 0 after 2^32 - 4.
+ghost use mathlib.Core.Path.{_≡_};
+ghost use mathlib.Core.Bool.{true, false};
+ghost use Prim.Native.Nat.{_<_, _≤_};
+ghost use lib.Ieee.{binary32};
+ghost use Rattle.bits.specs.Field.{bitOf};
+ghost use Rattle.machine.specs.declared.Machine.{Machine};
+ghost use Rattle.machine.specs.Machine.{withS};
+ghost use Rattle.machine.specs.Place.{state};
+ghost use Rattle.meaning.specs.Step.{after};
+ghost use Rattle.memory.specs.LoadStore.{accessAt};
+use super::address::plus;
+use bits::field::bit;
+use machine::registers::Single;
+use machine::registers::get_single;
+use machine::registers::set_single;
+use machine::window::read32;
+use machine::window::write32;
+
+// By bit 20 of the word a load or a store.
+pub fn move_words(
+    s: &mut [u32; 32],
+    window: &mut [u32],
+    base: u32,
+    op: u32,
+    start: u32,
+    first: Single,
+    count: u32,
+)
+    requires { ⌜ (first .0 < 32) × (count ≤ 510) ⌝ }
+    ensures { λ _. ⌜ ((q : Machine) → state (withS q (now (s .exit))) (now (window .exit)) ≡ after count (accessAt binary32 (bitOf op 20) base (first .0) start) (state (withS q (now (s .entry))) (now (window .entry)))) ⌝ }
+{
+    if bit(op, 20) {
+        load_words(s, &window[..], base, start, first, count);
+        return;
+    }
+    store_words(s, window, base, start, first, count);
+}
+
+fn load_words(s: &mut [u32; 32], window: &[u32], base: u32, start: u32, first: Single, count: u32)
+    requires { ⌜ (first .0 < 32) × (count ≤ 510) ⌝ }
+    ensures { λ _. ⌜ ((q : Machine) → state (withS q (now (s .exit))) (now (window .entry)) ≡ after count (accessAt binary32 true base (first .0) start) (state (withS q (now (s .entry))) (now (window .entry)))) ⌝ }
+{
+    for i in 0..count {
+        let value = read32(window, base, plus(start, 4 * i));
+        set_single(s, Single(first.0 + i as usize), value);
+    }
+}
+
+fn store_words(s: &[u32; 32], window: &mut [u32], base: u32, start: u32, first: Single, count: u32)
+    requires { ⌜ (first .0 < 32) × (count ≤ 510) ⌝ }
+    ensures { λ _. ⌜ ((q : Machine) → state (withS q (now (s .entry))) (now (window .exit)) ≡ after count (accessAt binary32 false base (first .0) start) (state (withS q (now (s .entry))) (now (window .entry)))) ⌝ }
+{
+    for i in 0..count {
+        let value = get_single(s, Single(first.0 + i as usize));
+        write32(window, base, plus(start, 4 * i), value);
+    }
+}

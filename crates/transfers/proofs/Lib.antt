@@ -1,0 +1,3 @@
+-- Laws of the system registers.
+
+mod SystemRegisters

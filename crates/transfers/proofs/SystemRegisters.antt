@@ -1,0 +1,43 @@
+-- The system registers: what a read gives, and what a write leaves.
+use mathlib.Core.Path.{_≡_, ap}
+use mathlib.Core.List.{[], _∷_}
+use Prim.Native.Nat.{ℕ, _+_, _*_, _/_, _%_, _^_}
+use native.Mathlib.Omega.{arith}
+use native.Mathlib.Decide.{ℕ-discrete}
+use lib.ListN.{getD}
+use borrow.Author.Tests.{ne-eqb}
+use Rattle.bits.proofs.Laws.{joined}
+use Rattle.machine.specs.Machine.{withFpscr}
+use Rattle.machine.specs.Place.{core, nzcv, State, state, put}
+use Rattle.meaning.specs.Step.{step}
+use Rattle.transfers.specs.Transfer.{readSystem, readFlags, writeSystem}
+use Rattle.transfers.specs.Value.{systemValue}
+
+-- a core register takes the value
+pub read-core : (reg t : ℕ) (st : State) → put st (core t) (systemValue reg (st .machine .fpscr) (st .machine .fpexc)) ≡ step (readSystem reg (core t) ∷ []) st
+read-core reg t st = by (ℕ-discrete reg 0) (ℕ-discrete reg 1) (ℕ-discrete reg 8)
+  where
+    by : Dec (reg ≡ 0) → Dec (reg ≡ 1) → Dec (reg ≡ 8)
+        → put st (core t) (systemValue reg (st .machine .fpscr) (st .machine .fpexc)) ≡ step (readSystem reg (core t) ∷ []) st
+    by (yes a) b c = rw a
+    by (no a) (yes b) c = rw (b, joined (st .machine .fpscr) 28)
+    by (no a) (no b) (yes c) = rw c
+    by (no a) (no b) (no c) = simp (ne-eqb _ _ a, ne-eqb _ _ b, ne-eqb _ _ c)
+
+-- the flags take its bits 31:28
+pub read-flags : (reg : ℕ) (st : State) → put st nzcv (systemValue reg (st .machine .fpscr) (st .machine .fpexc) / 2 ^ 28) ≡ step (readFlags reg ∷ []) st
+read-flags reg st = by (ℕ-discrete reg 0) (ℕ-discrete reg 1) (ℕ-discrete reg 8)
+  where
+    by : Dec (reg ≡ 0) → Dec (reg ≡ 1) → Dec (reg ≡ 8)
+        → put st nzcv (systemValue reg (st .machine .fpscr) (st .machine .fpexc) / 2 ^ 28) ≡ step (readFlags reg ∷ []) st
+    by (yes a) b c = rw a
+    by (no a) (yes b) c = rw b
+    by (no a) (no b) (yes c) = rw c
+    by (no a) (no b) (no c) = simp (ne-eqb _ _ a, ne-eqb _ _ b, ne-eqb _ _ c)
+
+-- FPSCR, written in its two parts, is the word
+pub write-fpscr : (t : ℕ) (st : State) → state (withFpscr (st .machine) (getD (st .machine .r) t 0)) (st .window) ≡ step (writeSystem 1 (core t)) st
+write-fpscr t st = ap (λ (z : ℕ). state (withFpscr (st .machine) z) (st .window)) (both (getD (st .machine .r) t 0) (st .machine .fpscr))
+  where
+    both : (v w : ℕ) → v ≡ (v / 2 ^ 28 * 2 ^ 28 + w % 2 ^ 28) / 2 ^ 28 * 2 ^ 28 + v % 2 ^ 28 % 2 ^ 28
+    both v w = omega arith

@@ -1,0 +1,47 @@
+// Register transfers (vfp.rs `coprocessor_register`, MCR and MRC on coprocessors 10 and 11), over lent registers.
+pub mod single;
+pub mod system;
+
+ghost use mathlib.Core.Path.{_≡_};
+ghost use mathlib.Core.List.{List};
+ghost use Prim.Native.Nat.{ℕ};
+ghost use Rattle.machine.specs.Machine.{assembled};
+ghost use Rattle.machine.specs.Place.{state};
+ghost use Rattle.meaning.specs.Tree.{out, plain};
+ghost use Rattle.transfers.specs.Transfer.{nextOf, transferTree};
+use bits::field::bits;
+use machine::Controls;
+
+// What a transfer hands back beside the lent registers, and whether it branched.
+pub struct Transferred {
+    pub controls: Controls,
+    pub branched: bool,
+}
+
+pub fn coprocessor_register(
+    s: &mut [u32; 32],
+    r: &mut [u32; 16],
+    x: Controls,
+    thumb: bool,
+    op: u32,
+) -> Transferred
+    ensures { λ t. ⌜ ((v : List ℕ) → out (state (assembled (now (s .exit)) (now (r .exit)) (t .controls) thumb) v) (nextOf (t .branched)) ≡ plain (transferTree thumb op) (state (assembled (now (s .entry)) (now (r .entry)) x thumb) v)) ⌝ }
+{
+    let opc1 = bits(op, 21, 23);
+    if opc1 == 7 {
+        return Transferred {
+            controls: system::system(r, x, op),
+            branched: false,
+        };
+    }
+    if opc1 == 0 {
+        return Transferred {
+            controls: x,
+            branched: single::single_core(s, r, thumb, op),
+        };
+    }
+    Transferred {
+        controls: x,
+        branched: false,
+    }
+}
