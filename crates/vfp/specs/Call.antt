@@ -1,0 +1,44 @@
+-- What a call answers, and what it should.
+use Prim.Native.Nat.{ℕ}
+use mathlib.Core.Bool.{Bool, true, false, cond}
+use mathlib.Core.List.{List}
+use lib.Dec.{eqb}
+use lib.ListN.{length}
+use Rattle.machine.specs.Place.{State, state}
+use Rattle.meaning.specs.Stop.{Stop, finished, undefined, branched, refused, Report, report}
+use Rattle.meaning.specs.Tree.{Tree, exitOf, plain}
+use Rattle.memory.specs.LoadStore.{loadStoreTree}
+use Rattle.vfp.specs.declared.Exit.{Exit}
+use Rattle.vfp.specs.declared.Exit.the-variants as E
+use Rattle.vfp.specs.declared.Answer.{Answer}
+use Rattle.vfp.specs.Limit.{windowLimit}
+
+-- the number and the values of an exit
+abbrev pub exitReport : Exit → Report
+exitReport E.Nothing = report finished
+exitReport (E.Undefined pc opcode) = report (undefined pc opcode)
+exitReport E.Branched = report branched
+exitReport (E.Refused n) = report (refused n)
+
+-- a report, with the machine and the window that are left
+pub record Reply : Type 0 where
+  pub says : Report
+  pub leaves : State
+
+-- the code's answer, with the window as the call leaves it
+abbrev pub answered : Answer → List ℕ → Reply
+answered a window = record { says = exitReport (a .exit); leaves = state (a .machine) window }
+
+-- what a word of the meaning t should give
+abbrev pub reply : Tree → State → Reply
+reply t st = let o = plain t st in record { says = report (exitOf (o .next)); leaves = o .st }
+
+-- loads and stores: refused outside the limits, with everything as it came
+abbrev pub pickReply : Bool → Reply → Reply → Reply
+pickReply true a b = a
+pickReply false a b = b
+
+abbrev pub loadStoreReply : ℕ → ℕ → State → Reply
+loadStoreReply base w st =
+    let n = windowLimit base (length (st .window)) in
+    pickReply (eqb n 0) (reply (loadStoreTree base w) st) (record { says = report (refused n); leaves = st })

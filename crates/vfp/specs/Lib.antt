@@ -1,0 +1,3 @@
+-- What the three calls promise.
+pub mod Limit
+pub mod Call
