@@ -1,0 +1,4 @@
+-- What a run promises.
+pub mod Limit
+pub mod Word
+pub mod Run

@@ -1,0 +1,56 @@
+-- What a run answers, and what it should.
+use Prim.Native.Nat.{ℕ}
+use mathlib.Core.Bool.{Bool, true, false}
+use mathlib.Core.List.{List}
+use lib.Dec.{eqb}
+use lib.ListN.{length}
+use Rattle.machine.specs.Place.{State, state}
+use Rattle.meaning.specs.Stop as S
+use Rattle.meaning.specs.Stop.{Report, report}
+use Rattle.meaning.specs.Tree as T
+use Rattle.meaning.specs.Run.{Ended, run}
+use Rattle.run.specs.declared.Stop.{Stop}
+use Rattle.run.specs.declared.Stop.the-variants.{Finished, Foreign, Undefined, Branched, Hangs, Refused}
+use Rattle.run.specs.declared.Next.{Next}
+use Rattle.run.specs.declared.Next.the-variants.{On, Last, Halt}
+use Rattle.run.specs.declared.Ran.{Ran}
+use Rattle.run.specs.Limit.{runLimit}
+use Rattle.run.specs.Word.{meaning}
+
+-- the kind and the values of the code's stop; `report` gives their numbers
+abbrev pub stopOf : Stop → S.Stop
+stopOf Finished = S.finished
+stopOf Foreign = S.foreign
+stopOf (Undefined pc opcode) = S.undefined pc opcode
+stopOf Branched = S.branched
+stopOf (Hangs place) = S.hangs place
+stopOf (Refused n) = S.refused n
+
+abbrev pub nextOf : Next → T.Next
+nextOf On = T.on
+nextOf Last = T.last
+nextOf (Halt s) = T.halt (stopOf s)
+
+-- a report and a count, with the machine and the window that are left
+pub record Reply : Type 0 where
+  pub says : Report
+  pub count : ℕ
+  pub leaves : State
+
+-- the code's answer, with the window as the run leaves it
+abbrev pub answered : Ran → List ℕ → Reply
+answered a window = record { says = report (stopOf (a .stop)); count = a .count; leaves = state (a .machine) window }
+
+-- what a run that has ended gives
+abbrev pub reply : Ended → Reply
+reply e = record { says = report (e .stop); count = e .count; leaves = e .st }
+
+abbrev pub pickReply : Bool → Reply → Reply → Reply
+pickReply true a b = a
+pickReply false a b = b
+
+-- the run of a list: refused outside the limits, with zero words run and everything as it came
+abbrev pub runReply : ℕ → List ℕ → State → Reply
+runReply base list st =
+    let n = runLimit (length list) base (length (st .window)) (st .machine .thumb) in
+    pickReply (eqb n 0) (reply (run (meaning base) list 0 st)) (record { says = report (S.refused n); count = 0; leaves = st })

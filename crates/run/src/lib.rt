@@ -1,0 +1,87 @@
+// The plain run over a list of instruction words.
+pub mod limit;
+pub mod progress;
+pub mod rest;
+pub mod word;
+
+ghost use mathlib.Core.Path.{_≡_};
+ghost use mathlib.Core.Bool.{false};
+ghost use Rattle.machine.specs.Place.{state};
+ghost use Rattle.meaning.specs.Run as R;
+ghost use Rattle.run.specs.Word.{meaning};
+ghost use Rattle.run.specs.Run.{answered, reply, runReply};
+use limit::run_limit;
+use machine::Machine;
+use progress::Progress;
+use word::advance;
+use word::execute;
+
+// Why a run stopped. A plain run never hangs.
+pub enum Stop {
+    Finished,
+    Foreign,
+    Undefined { pc: u32, opcode: u32 },
+    Branched,
+    Hangs(usize),
+    Refused(u8),
+}
+
+// What follows a word: the next one, a stop after it, or a stop before it.
+pub enum Next {
+    On,
+    Last,
+    Halt(Stop),
+}
+
+// The stop, how many words were counted, and the machine handed back.
+pub struct Ran {
+    pub stop: Stop,
+    pub count: usize,
+    pub machine: Machine,
+}
+
+// Runs a list of words over a window from a base on.
+pub fn run(machine: Machine, window: &mut [u32], base: u32, list: &[u32]) -> Ran
+    ensures { λ a. ⌜ answered a (now (window .exit)) ≡ runReply base (now (list .entry)) (state machine (now (window .entry))) ⌝ }
+{
+    let limit = run_limit(list.len(), base, window.len(), machine.thumb);
+    if limit != 0 {
+        return Ran {
+            stop: Stop::Refused(limit),
+            count: 0,
+            machine,
+        };
+    }
+    run_words(machine, window, base, list)
+}
+
+// The run within the limits. The registers are locals that are lent to each word.
+fn run_words(machine: Machine, window: &mut [u32], base: u32, list: &[u32]) -> Ran
+    requires { ⌜ machine .thumb ≡ false ⌝ }
+    ensures { λ a. ⌜ answered a (now (window .exit)) ≡ reply (R.run (meaning base) (now (list .entry)) 0 (state machine (now (window .entry)))) ⌝ }
+{
+    let begun = Progress::new(machine);
+    let mut s = begun.s;
+    let mut r = begun.r;
+    let mut x = begun.controls;
+    let mut i: usize = 0;
+    while i < list.len() {
+        let op = list[i];
+        let done = execute(&mut s, &mut r, x, window, base, op);
+        x = done.controls;
+        let next = done.next;
+        match next {
+            Next::On => {
+                advance(&mut r);
+                i += 1;
+            }
+            Next::Last => {
+                return Progress { s, r, controls: x }.ended(Stop::Branched, i + 1);
+            }
+            Next::Halt(stop) => {
+                return Progress { s, r, controls: x }.ended(stop, i);
+            }
+        }
+    }
+    Progress { s, r, controls: x }.ended(Stop::Finished, i)
+}
