@@ -2,7 +2,6 @@
 use mathlib.Core.Path.{_≡_, refl, sym}
 use mathlib.Core.Bool.{Bool, true, false, cond, not, _&&_}
 use Prim.Native.Nat.{ℕ}
-use native.Mathlib.Omega.{arith}
 use native.Mathlib.Decide.{ℕ-discrete}
 use lib.Dec.{eqb}
 use lib.Ieee.{Format, binary32, binary64}
@@ -13,10 +12,8 @@ use Rattle.machine.specs.Place.{core, State, get}
 use Rattle.meaning.specs.Step.{step, after, nothing}
 use Rattle.meaning.specs.Tree.{go, on, out, plain}
 use Rattle.meaning.proofs.Laws.{plain-ask, plain-once, plain-then}
+use Rattle.memory.proofs.Start.{clash}
 use Rattle.memory.specs.LoadStore.{formatOf, pairStep, countOf, startOf, accessAt, writeBack, accessTree, loadStoreTree}
-
-clash : true ≡ false → ⊥
-clash e = let n : _≡_ {A = ℕ} 0 1 = cc in omega arith
 
 module _ (f : Format) (base w : ℕ) (st : State) where
   pub paired : (x : State) → field w 21 27 ≡ 0b110_0010 → x ≡ step (pairStep f w) st → out x on ≡ plain (accessTree f base w) st
