@@ -2,4 +2,4 @@
 
 mod Start
 mod Trees
-mod Doubles
+pub mod Doubles

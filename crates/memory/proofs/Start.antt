@@ -1,18 +1,21 @@
 -- The first address, by U and by whether one register moves.
-use mathlib.Core.Path.{_≡_, refl}
+use mathlib.Core.Path.{_≡_, refl, sym}
 use mathlib.Core.Bool.{Bool, true, false, cond, not, _&&_}
 use Prim.Native.Nat.{ℕ, _+_, _%_, _^_}
 use native.Mathlib.Omega.{arith}
+
+pub clash : true ≡ false → ⊥
+clash e = let n : _≡_ {A = ℕ} 0 1 = cc in omega arith
 
 module _ (a k l : ℕ) where
   -- the base itself
   pub at-base : (u one : Bool) → (u && not one) ≡ true → a ≡ cond u (cond one ((a + k) % 2 ^ 32) a) ((a + l) % 2 ^ 32)
   at-base true false h = refl
-  at-base true true h = absurd (let n : _≡_ {A = ℕ} 0 1 = cc in omega arith)
-  at-base false one h = absurd (let n : _≡_ {A = ℕ} 0 1 = cc in omega arith)
+  at-base true true h = absurd (clash (sym h))
+  at-base false one h = absurd (clash (sym h))
 
   -- the base and the offset
   pub at-offset : (u one : Bool) → (u && not one) ≡ false → (a + cond u k l) % 2 ^ 32 ≡ cond u (cond one ((a + k) % 2 ^ 32) a) ((a + l) % 2 ^ 32)
   at-offset true true h = refl
-  at-offset true false h = absurd (let n : _≡_ {A = ℕ} 0 1 = cc in omega arith)
+  at-offset true false h = absurd (clash h)
   at-offset false one h = refl

@@ -1,10 +1,16 @@
 // The addresses and the number of registers that a load or store goes by.
 ghost use mathlib.Core.Path.{_≡_};
 ghost use mathlib.Core.Bool.{cond};
-ghost use Prim.Native.Nat.{_+_, _-_, _%_, _≤_, _^_};
+ghost use mathlib.Core.List.{List};
+ghost use Prim.Native.Nat.{ℕ, _+_, _-_, _%_, _≤_, _^_};
 ghost use Rattle.bits.specs.Field.{bitOf};
-ghost use Rattle.memory.specs.LoadStore.{formatOf, offset, oneOnly, several, countOf, startOf};
+ghost use Rattle.machine.specs.declared.Machine.{Machine};
+ghost use Rattle.machine.specs.Machine.{withR};
+ghost use Rattle.machine.specs.Place.{state};
+ghost use Rattle.meaning.specs.Step.{step};
+ghost use Rattle.memory.specs.LoadStore.{formatOf, offset, oneOnly, several, countOf, startOf, writeBack};
 use bits::field::bit;
+use bits::field::bits;
 use machine::window::minus;
 
 // P set and W clear: VLDR and VSTR, one register at base + or - offset.
@@ -48,13 +54,23 @@ pub fn start_of(op: u32, from: u32) -> u32
 }
 
 // base + or - offset, by U.
-pub fn offset_from(op: u32, from: u32) -> u32
+fn offset_from(op: u32, from: u32) -> u32
     ensures { λ a. ⌜ a ≡ (from + cond (bitOf op 23) (offset op) (2 ^ 32 - offset op)) % 2 ^ 32 ⌝ }
 {
     if bit(op, 23) {
         return plus(from, op % 256 * 4);
     }
     minus(from, op % 256 * 4)
+}
+
+// W: the base register becomes base + or - offset.
+pub fn write_back(r: &mut [u32; 16], op: u32)
+    ensures { λ _. ⌜ ((q : Machine) (v : List ℕ) → state (withR q (now (r .exit))) v ≡ step (writeBack op) (state (withR q (now (r .entry))) v)) ⌝ }
+{
+    if bit(op, 21) {
+        let rn = bits(op, 16, 19) as usize;
+        r[rn] = offset_from(op, r[rn]);
+    }
 }
 
 // a + b, modulo 2^32.

@@ -13,7 +13,6 @@ ghost use Rattle.bits.specs.Field.{field, bitOf};
 ghost use Rattle.meaning.specs.Step.{after};
 ghost use Rattle.meaning.specs.Tree.{out, plain, on};
 ghost use Rattle.memory.specs.LoadStore.{formatOf, countOf, accessAt, accessTree, loadStoreTree};
-use bits::field::bit;
 use bits::field::bits;
 use machine::registers::dreg;
 use machine::registers::sreg;
@@ -28,17 +27,13 @@ pub fn coprocessor_load_store(
     ensures { λ _. ⌜ ((q : Machine) → out (state (withS (withR q (now (r .exit))) (now (s .exit))) (now (window .exit))) on ≡ plain (loadStoreTree base op) (state (withS (withR q (now (r .entry))) (now (s .entry))) (now (window .entry)))) ⌝ }
 {
     let coproc = bits(op, 8, 11);
-    if coproc == 10 {
-        load_store(s, r, window, base, op, false);
+    if (coproc != 10) & (coproc != 11) {
         return;
     }
-    if coproc == 11 {
-        load_store(s, r, window, base, op, true);
-        return;
-    }
+    load_store(s, r, window, base, op, coproc == 11);
 }
 
-// Of either precision. The base register is read and written back first: neither loads nor stores touch core registers.
+// In either precision. The base register is written back first: neither loads nor stores touch core registers.
 fn load_store(
     s: &mut [u32; 32],
     r: &mut [u32; 16],
@@ -55,13 +50,8 @@ fn load_store(
         return;
     }
     let rn = bits(op, 16, 19) as usize;
-    let from = r[rn];
-    let start = address::start_of(op, from);
-    if bit(op, 21) {
-        r[rn] = address::offset_from(op, from);
-        transfer(s, window, base, op, double, start);
-        return;
-    }
+    let start = address::start_of(op, r[rn]);
+    address::write_back(r, op);
     transfer(s, window, base, op, double, start);
 }
 
