@@ -101,6 +101,59 @@ split-clear t st μ e = rw e at (split t st μ)
 pub split-at : (t : Tree) (st : State) (μ : Map) (n : ℕ) → hangOf t st μ ≡ at n → watched t st μ ≡ seen st μ (halt (hangs n))
 split-at t st μ n e = rw e at (split t st μ)
 
+-- ---- the map that a word leaves
+
+pub marked-stop : (s : Stop) (st : State) (μ : Map) → μ ≡ marked (stop s) st μ
+unfolding marked
+marked-stop s st μ = refl
+
+pub marked-ask : (p : Place) (k : ℕ → Tree) (st : State) (μ x : Map) → x ≡ marked (k (get st p)) st μ → x ≡ marked (ask p k) st μ
+unfolding marked
+marked-ask p k st μ x e = e
+
+pub marked-once : (s : Step) (st : State) (μ x : Map) → x ≡ stepMarks s μ → x ≡ marked (go (once s)) st μ
+unfolding marked afterMarks
+marked-once s st μ x e = e
+
+pub marked-branch : (s : Step) (st : State) (μ x : Map) → x ≡ stepMarks s μ → x ≡ marked (branch (once s)) st μ
+unfolding marked afterMarks
+marked-branch s st μ x e = e
+
+pub marked-nothing : (st : State) (μ : Map) → μ ≡ marked (go nothing) st μ
+unfolding marked afterMarks
+marked-nothing st μ = refl
+
+pub marked-family : (n : ℕ) (each : ℕ → Step) (st : State) (μ x : Map) → x ≡ afterMarks n each μ → x ≡ marked (go (record { count = n; each = each; tail = [] })) st μ
+unfolding marked
+marked-family n each st μ x e = e
+
+pub marked-then : (n : ℕ) (each : ℕ → Step) (tail : Step) (st : State) (μ x y : Map) → x ≡ afterMarks n each μ → y ≡ stepMarks tail x
+    → y ≡ marked (go (record { count = n; each = each; tail = tail })) st μ
+unfolding marked
+marked-then n each tail st μ x y d e = e ∙ ap (stepMarks tail) d
+
+-- ---- the place that a word hangs on
+
+pub clear-stop : (s : Stop) (st : State) (μ : Map) → clear ≡ hangOf (stop s) st μ
+unfolding hangOf
+clear-stop s st μ = refl
+
+pub clear-go : (a : Act) (st : State) (μ : Map) → clear ≡ hangOf (go a) st μ
+unfolding hangOf
+clear-go a st μ = refl
+
+pub clear-branch : (a : Act) (st : State) (μ : Map) → clear ≡ hangOf (branch a) st μ
+unfolding hangOf
+clear-branch a st μ = refl
+
+pub hang-known : (p : Place) (k : ℕ → Tree) (st : State) (μ : Map) (h : Hang) → known μ p ≡ true → h ≡ hangOf (k (get st p)) st μ → h ≡ hangOf (ask p k) st μ
+unfolding hangOf
+hang-known p k st μ h g e = rw g e
+
+pub hang-here : (p : Place) (k : ℕ → Tree) (st : State) (μ : Map) → known μ p ≡ false → at (number p) ≡ hangOf (ask p k) st μ
+unfolding hangOf
+hang-here p k st μ g = rw g
+
 -- ---- the runs, unrolled by one word of the list from i on
 
 module _ (M : ℕ → Tree) (ws : List ℕ) (i : ℕ) (h : i < length ws) (st : State) where

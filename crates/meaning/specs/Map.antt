@@ -7,6 +7,7 @@ use lib.ListN.{getD, set}
 use Rattle.bits.specs.Psr.{oneOf}
 use Rattle.machine.specs.Place.{Place, single, core, word, flags, control, exc, nzcv}
 use Rattle.meaning.specs.declared.Marks.{Marks}
+use Rattle.meaning.specs.declared.Known.{Known}
 
 -- the marks before the window, and the window's own, each 0 or 1
 pub record Map : Type 0 where
@@ -15,6 +16,16 @@ pub record Map : Type 0 where
 
 abbrev pub mapOf : Marks → List ℕ → Map
 mapOf k w = record { marks = k; words = w }
+
+-- the marks of their parts, and the parts that are no array
+abbrev pub marksFrom : List Bool → List Bool → Known → Marks
+marksFrom s r k = record { s = s; r = r; flags = k .flags; control = k .control; exc = k .exc; nzcv = k .nzcv }
+
+abbrev pub knownOf : Marks → Known
+knownOf k = record { flags = k .flags; control = k .control; exc = k .exc; nzcv = k .nzcv }
+
+abbrev pub mapFrom : List Bool → List Bool → Known → List ℕ → Map
+mapFrom s r k words = mapOf (marksFrom s r k) words
 
 -- what is read outside the window is known
 abbrev pub known : Map → Place → Bool

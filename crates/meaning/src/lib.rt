@@ -10,3 +10,11 @@ pub struct Marks {
     pub exc: bool,
     pub nzcv: bool,
 }
+
+// The marks that are no array: they travel by value beside the lent arrays.
+pub struct Known {
+    pub flags: bool,
+    pub control: bool,
+    pub exc: bool,
+    pub nzcv: bool,
+}
