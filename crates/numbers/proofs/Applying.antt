@@ -1,13 +1,12 @@
 -- The arithmetic of one step by the tests that the code makes, and what its result depends on. Over the format. Assumes nothing.
-use mathlib.Core.Path.{_≡_, refl, sym, ap, _∙_, subst}
+use mathlib.Core.Path.{_≡_, refl, sym, ap, _∙_}
 use mathlib.Core.Bool.{Bool, true, false, _&&_, _||_, cond}
 use Prim.Native.Nat.{ℕ, _*_, _%_, _≤_, _<_}
-use lib.Dec.{ltb}
 use borrow.Author.Tests.{lt-ltb, le-ltb}
 use lib.Ieee.{Float, Format, hid, ones, top, ofBits, toBits, nanBits}
 use lib.Ieee.Bits.{nanBits-above}
 use Rattle.numbers.specs.Flush.{flush}
-use Rattle.numbers.specs.Arithmetic.{apply, accumulates, defaultNan, anyNan, applied, arithmetic}
+use Rattle.numbers.specs.Arithmetic.{apply, accumulates, defaultNan, applied, arithmetic}
 use Rattle.numbers.specs.declared.arithmetic.Arithmetic.{Arithmetic}
 use Rattle.numbers.specs.declared.arithmetic.Arithmetic.the-variants.{MultiplyAccumulate, MultiplySubtract, NegateMultiplySubtract, NegateMultiplyAccumulate, Multiply, NegateMultiply, Add, Subtract, Divide}
 

@@ -3,11 +3,11 @@ use mathlib.Core.Path.{_≡_, refl, sym, ap, _∙_, subst}
 use mathlib.Core.Logic.{_⊎_, inl, inr}
 use mathlib.Core.Bool.{Bool, true, false, not, _||_, cond}
 use Prim.Native.Nat.{ℕ, zero, suc, _+_, _-_, _*_, _/_, _%_, _^_, _≤_, _<_, min, compare, Ordering, Ordering·lt, Ordering·eq, Ordering·gt}
-use native.Mathlib.Nat.{le-trans, le-of-eq, le-refl, le-suc, lt-of-lt-of-le, zero-lt-suc, one-mul, zero-mul, add-mul, mul-comm, mul-right-comm, mul-pos, div-add-mod', mod-eq-of-lt, div-eq-of-lt, mod-lt, min-eq-left, min-eq-right, lt-of-not-le}
+use native.Mathlib.Nat.{le-trans, le-refl, le-suc, lt-of-lt-of-le, zero-lt-suc, one-mul, zero-mul, add-mul, mul-comm, mul-right-comm, mul-pos, div-add-mod', mod-eq-of-lt, div-eq-of-lt, mod-lt, min-eq-left, min-eq-right, lt-of-not-le}
 use native.Mathlib.Decide.{decLe}
 use native.Mathlib.Numerals.{add-one, one-add}
 use native.Mathlib.Omega.{arith}
-use lib.Dec.{T, ltb, eqb, eqb→eq, lit<}
+use lib.Dec.{T, eqb, eqb→eq, lit<}
 use lib.Pow.{pow-pos, pow-mono, shr-lt, shl-exact}
 use lib.Ieee.Fits.{nearest-le, eq→eqb}
 use lib.Ieee.Nearest.{nearest-ge, div-same}

@@ -1,21 +1,21 @@
 -- What is rounded has the form c * 2 ^ k of the format's smallest values. So its word has a bound, and is no subnormal's where its size is a normal value's. Over the mode and the format.
 -- Assumes nothing.
 use mathlib.Core.Path.{_≡_, refl, sym, ap, _∙_, subst}
-use mathlib.Core.Logic.{_⊎_, inl, inr}
+use mathlib.Core.Logic.{inl, inr}
 use mathlib.Core.Bool.{Bool, true, false, cond}
-use Prim.Native.Nat.{ℕ, zero, suc, _+_, _-_, _*_, _/_, _%_, _^_, _≤_, _<_, min, compare, zero-le}
-use native.Mathlib.Nat.{le-trans, le-of-eq, le-refl, le-of-lt, lt-of-lt-of-le, lt-of-le-of-lt, lt-of-not-le, le-of-suc-le-suc, not-le-of-lt, mul-one, one-mul, zero-mul, zero-div, mul-comm, mul-assoc, mul-pos, mul-le-mul, mul-le-mul-right, mul-le-mul-left, mul-mul-mul-comm, div-one, div-mul-le-self, div-div-eq-div-mul, le-div-iff-mul-le, div-lt-iff-lt-mul, mod-eq-of-lt, add-mod-left, zero-add, suc-mul, zero-lt-suc, eq-zero-or-pos, div-add-mod', mod-lt, min-eq-left}
-use native.Mathlib.Decide.{decLe, decLt}
+use Prim.Native.Nat.{ℕ, suc, _+_, _-_, _*_, _/_, _%_, _^_, _≤_, _<_, min, zero-le}
+use native.Mathlib.Nat.{le-trans, le-of-eq, lt-of-lt-of-le, lt-of-le-of-lt, lt-of-not-le, le-of-suc-le-suc, mul-one, zero-mul, mul-comm, mul-assoc, mul-pos, mul-le-mul, mul-le-mul-left, mul-mul-mul-comm, div-one, div-mul-le-self, div-div-eq-div-mul, le-div-iff-mul-le, div-lt-iff-lt-mul, mod-eq-of-lt, add-mod-left, zero-add, zero-lt-suc, min-eq-left}
+use native.Mathlib.Decide.{decLt}
 use native.Mathlib.Omega.{arith}
-use lib.Dec.{T, leb, lit≤, lit<}
-use lib.Pow.{pow-add, pow-pos, pow-mono}
-use lib.Ieee.{Float, Format, binary32, binary64, prec, emax, low, size, hid, ones, top, toBits}
-use lib.Ieee.Digits.{size-lt, size-reaches}
+use lib.Dec.{lit≤, lit<}
+use lib.Pow.{pow-add, pow-pos}
+use lib.Ieee.{Format, binary32, binary64, prec, low, size, hid, ones, top, toBits}
+use lib.Ieee.Digits.{size-reaches}
 use lib.Ieee.Fits.{kept-lt}
-use Rattle.numbers.specs.Rounding.{move, cutTo, settled, dropped, rounded, ceiling, packed}
+use Rattle.numbers.specs.Rounding.{cutTo, dropped, rounded, ceiling, packed}
 use Rattle.numbers.specs.Root.{isqrt, rootCut, rootOf}
 use Rattle.numbers.specs.declared.rounding.Rounding.{Rounding}
-use Rattle.numbers.proofs.Units.{Lead, hid-pos, prec-pos, size-gt}
+use Rattle.numbers.proofs.Units.{Lead, hid-pos, prec-pos}
 use Rattle.numbers.proofs.Cutting.{move-ge, move-le, cut-exact}
 use Rattle.numbers.proofs.Written.{settled-bits, rounded-bits, ceiling-le, ceiling-ge}
 use Rattle.numbers.proofs.Squares.{is-root, isqrt-unique, isqrt-ge}

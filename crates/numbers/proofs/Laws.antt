@@ -2,24 +2,24 @@
 -- Assumes nothing.
 use mathlib.Core.Path.{_≡_, refl, sym, ap, _∙_, subst}
 use mathlib.Core.Logic.{_⊎_, inl, inr}
-use mathlib.Core.Bool.{Bool, true, false, not, _&&_, _||_, cond}
-use Prim.Native.Nat.{ℕ, zero, suc, _+_, _-_, _*_, _/_, _%_, _^_, _≤_, _<_, min}
-use native.Mathlib.Nat.{le-trans, le-of-eq, lt-of-lt-of-le, mul-one, one-mul, mul-comm, mul-pos, mul-le-mul-right, mul-le-mul-left, eq-zero-or-pos, le-div-iff-mul-le, div-lt-iff-lt-mul, mod-lt, zero-lt-suc, zero-add, add-zero, zero-mul}
+use mathlib.Core.Bool.{Bool, true, false, not, _&&_, cond}
+use Prim.Native.Nat.{ℕ, zero, suc, _+_, _-_, _*_, _/_, _%_, _^_, _≤_, _<_}
+use native.Mathlib.Nat.{le-trans, le-of-eq, one-mul, mul-pos, mul-le-mul-right, eq-zero-or-pos, zero-lt-suc, zero-mul}
 use native.Mathlib.Decide.{decLt}
 use native.Mathlib.Omega.{arith}
 use lib.IntN.{ℤ}
 use lib.Dec.{T, leb, ltb, eqb, leb→le, lit≤, lit<}
 use lib.Pow.{pow-pos}
 use lib.Count.{leadingZeros}
-use lib.Ieee.{Float, nan, inf, fin, Format, binary32, binary64, prec, emax, low, up, down, hid, ones, top, fits, isNan, ofBits, toBits, nanBits}
-use lib.Ieee.Bits.{toBits-lt, ofBits-fits, toBits-ofBits}
-use lib.Ieee.Fits.{add-fits, sub-fits, mul-fits, div-fits, neg-fits, fits-widens, nan-fits, inf-fits, and-l, and-r, up-pos, down-pos}
+use lib.Ieee.{Float, nan, inf, fin, Format, binary32, binary64, prec, emax, low, up, down, hid, ones, top, fits, ofBits, toBits}
+use lib.Ieee.Bits.{toBits-lt, ofBits-fits}
+use lib.Ieee.Fits.{add-fits, sub-fits, mul-fits, div-fits, neg-fits, fits-widens, and-l, and-r, up-pos, down-pos}
 use Rattle.numbers.specs.Flush.{flush}
-use Rattle.numbers.specs.Arithmetic.{apply, accumulates, defaultNan, anyNan, applied, arithmetic}
+use Rattle.numbers.specs.Arithmetic.{apply, defaultNan, anyNan, applied, arithmetic}
 use Rattle.numbers.specs.Rounding.{cutTo, rounded}
 use Rattle.numbers.specs.Convert.{narrowed, narrow, widen, Lifted}
-use Rattle.numbers.specs.Integer.{integerValue, fromInteger, clamped, integerOf, toInteger}
-use Rattle.numbers.specs.Root.{rootOf, sqrtOf, squareRoot}
+use Rattle.numbers.specs.Integer.{fromInteger, clamped, integerOf, toInteger}
+use Rattle.numbers.specs.Root.{sqrtOf, squareRoot}
 use Rattle.numbers.specs.declared.arithmetic.Arithmetic.{Arithmetic}
 use Rattle.numbers.specs.declared.arithmetic.Arithmetic.the-variants.{MultiplyAccumulate, MultiplySubtract, NegateMultiplySubtract, NegateMultiplyAccumulate, Multiply, NegateMultiply, Add, Subtract, Divide}
 use Rattle.numbers.specs.declared.rounding.Rounding.{Rounding}

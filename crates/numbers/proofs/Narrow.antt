@@ -1,12 +1,12 @@
 -- Narrowing a value to a format. Assumes nothing.
-use mathlib.Core.Path.{_≡_, refl, sym, ap, _∙_, subst}
+use mathlib.Core.Path.{_≡_, refl, sym, ap, _∙_}
 use mathlib.Core.Bool.{Bool, true, cond}
-use Prim.Native.Nat.{ℕ, suc, _+_, _-_, _*_, _/_, _%_, _^_, _≤_, _<_}
+use Prim.Native.Nat.{ℕ, _+_, _-_, _*_, _/_, _%_, _^_, _<_}
 use native.Mathlib.Nat.{mul-assoc}
 use native.Mathlib.Omega.{arith}
 use lib.Dec.{leb}
 use lib.Pow.{pow-add, pow-pos}
-use lib.Ieee.{Float, nan, inf, fin, Format, binary32, binary64, low, up, down, hid, ones, top, ofBits, toBits}
+use lib.Ieee.{Float, nan, inf, fin, Format, binary32, binary64, up, down, hid, ones, top, ofBits, toBits}
 use lib.Ieee.Fits.{down-pos}
 use lib.Ieee.Exact.{HasValue}
 use Rattle.numbers.specs.Flush.{flush}
@@ -14,7 +14,7 @@ use Rattle.numbers.specs.Rounding.{rounded, exactly, IsSettled}
 use Rattle.numbers.specs.Convert.{narrowed, narrowsExactly, narrow, IsNarrowed}
 use Rattle.numbers.specs.declared.rounding.Rounding.{Rounding}
 use Rattle.numbers.specs.declared.rounding.Rounding.the-variants.{Nearest}
-use Rattle.numbers.proofs.Units.{slide, reads-low, reads-mid, reads-inf}
+use Rattle.numbers.proofs.Units.{slide, reads-low, reads-normal, reads-inf}
 use Rattle.numbers.proofs.Patterns.{nan-of-fields}
 use Rattle.numbers.proofs.Written.{rounded-same, exactly-same}
 use Rattle.numbers.proofs.Settle.{settled-same}
@@ -79,14 +79,8 @@ pub narrow-mid : (mode : Rounding) (f : Format) (b bits : ℕ) (t : Bool) → (f
     → IsSettled mode f (neg b) ((0x10_0000_0000_0000 + digits b) * 512 * 2 ^ (field b + 1125)) (2 ^ 2209) bits t → IsNarrowed mode f (ofBits binary64 b) bits t
 narrow-mid mode f b bits t n l p =
     by-stage mode f (ofBits binary64 b) (neg b) (0x10_0000_0000_0000 + digits b) (field b - 1) (field b + 1125) bits t
-    (reads-mid binary64 b (field b - 1) (back (field b) n) (under b n l)) (exps (field b) n) p
+    (reads-normal binary64 b n l) (exps (field b) n) p
   where
-    back : (x : ℕ) → (x ≡ 0 → ⊥) → x ≡ suc (x - 1)
-    back x p = omega arith
-
-    under : (b : ℕ) → (field b ≡ 0 → ⊥) → (field b ≡ 2047 → ⊥) → suc (field b - 1) < 2047
-    under b p n = omega arith
-
     exps : (x : ℕ) → (x ≡ 0 → ⊥) → 9 + (x + 1125) + 1074 ≡ x - 1 + 2209
     exps x p = omega arith
 

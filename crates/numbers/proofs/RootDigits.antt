@@ -2,13 +2,13 @@
 use mathlib.Core.Path.{_≡_, refl, sym, ap, _∙_, subst}
 use mathlib.Core.Bool.{Bool, true, false}
 use Prim.Native.Nat.{ℕ, suc, _+_, _-_, _*_, _/_, _%_, _^_, _≤_, _<_, compare, Ordering, Ordering·lt, Ordering·eq, Ordering·gt}
-use native.Mathlib.Nat.{le-trans, le-of-eq, lt-of-lt-of-le, lt-of-le-of-lt, le-antisymm, mul-one, mul-assoc, mul-comm, pow-suc, div-one, zero-add}
+use native.Mathlib.Nat.{le-trans, le-of-eq, lt-of-lt-of-le, lt-of-le-of-lt, le-antisymm, mul-one, mul-assoc, div-one, zero-add}
 use native.Mathlib.Omega.{arith}
 use native.Mathlib.Numerals.{add-one}
 use lib.Dec.{T, lit<, lit≤, eqb, eqb→eq}
 use lib.Ieee.Fits.{eq→eqb}
 use lib.Arith.{digits-div}
-use lib.Pow.{pow-add, pow-pos, pow-mono, shl-exact}
+use lib.Pow.{pow-add, pow-mono, shl-exact}
 use Rattle.numbers.specs.declared.rounding.Rounding.{Rounding}
 use Rattle.numbers.specs.Rounding.{move}
 use Rattle.numbers.proofs.Cutting.{move-le}

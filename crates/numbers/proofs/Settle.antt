@@ -1,6 +1,6 @@
 -- The last stage: m * 2 ^ e / 2 ^ 2209 at a format, from its pattern in the format's smallest values. Over the mode and the format.
 -- Assumes nothing.
-use mathlib.Core.Path.{_≡_, refl, sym, ap, _∙_, subst}
+use mathlib.Core.Path.{_≡_, refl, sym, ap, _∙_}
 use mathlib.Core.Logic.{_⊎_, inl, inr}
 use mathlib.Core.Bool.{Bool, true, false, _&&_, cond}
 use Prim.Native.Nat.{ℕ, _+_, _-_, _*_, _/_, _%_, _^_, _≤_, _<_, min, zero-le}
@@ -9,7 +9,7 @@ use native.Mathlib.Omega.{arith}
 use lib.Dec.{ltb, eqb, lit≤}
 use lib.Pow.{pow-add, pow-pos, pow-mono, shr-lt}
 use lib.Ieee.{Format, binary32, binary64, prec, low, hid, ones, top, toBits}
-use Rattle.numbers.specs.Rounding.{cutTo, rounded, exactly, ceiling, packed, IsCut, IsPacked, IsSettled}
+use Rattle.numbers.specs.Rounding.{cutTo, ceiling, packed, IsCut, IsPacked, IsSettled}
 use Rattle.numbers.specs.declared.rounding.Rounding.{Rounding}
 use Rattle.numbers.proofs.Units.{Lead}
 use Rattle.numbers.proofs.Cutting.{cut-far, rest-far}

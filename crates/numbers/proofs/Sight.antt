@@ -4,25 +4,25 @@ use mathlib.Core.Path.{_≡_, refl, sym, ap, _∙_, subst}
 use mathlib.Core.Logic.{_⊎_, inl, inr}
 use mathlib.Core.Bool.{Bool, true, false, _&&_, cond}
 use Prim.Native.Nat.{ℕ, zero, suc, _+_, _-_, _*_, _/_, _%_, _^_, _≤_, _<_, zero-le, compare, Ordering, Ordering·lt, Ordering·eq, Ordering·gt}
-use native.Mathlib.Nat.{le-trans, le-of-eq, le-of-lt, le-of-suc-le-suc, lt-of-lt-of-le, lt-of-le-of-lt, lt-of-not-le, mul-assoc, mul-comm, mul-right-comm, mul-pos, mul-le-mul-right, mul-le-mul-left, mul-lt-mul-of-pos-right, suc-mul, div-add-mod', mod-lt, div-mul-le-self, le-div-iff-mul-le, div-lt-iff-lt-mul, div-div-eq-div-mul, eq-or-lt-of-le, zero-mul}
-use native.Mathlib.Decide.{decLt, decLe}
+use native.Mathlib.Nat.{le-trans, le-of-eq, le-of-lt, lt-of-lt-of-le, lt-of-le-of-lt, mul-assoc, mul-comm, mul-right-comm, mul-pos, mul-le-mul-right, mul-lt-mul-of-pos-right, suc-mul, div-add-mod', mod-lt, div-mul-le-self, div-lt-iff-lt-mul, zero-mul}
+use native.Mathlib.Decide.{decLt}
 use native.Mathlib.Omega.{arith}
 use lib.Dec.{T, leb, ltb, eqb, ltb→lt}
 use lib.Pow.{pow-add, pow-pos, pow-mono, pow-lt}
 use borrow.Author.Tests.{lt-ltb, le-ltb, eqb-true, eqb-false}
 use lib.IntN.{ℤ}
-use lib.Ieee.{Float, nan, inf, fin, Format, binary32, binary64, prec, emax, low, up, down, fits, size, odd, nearest, hid, top, ofBits, toBits}
+use lib.Ieee.{Float, inf, fin, Format, binary32, binary64, prec, emax, low, up, down, fits, size, odd, nearest, hid, ofBits}
 use lib.Ieee.Digits.{size-le}
 use lib.Ieee.Fits.{and-r, down-pos}
 use lib.Ieee.Exact.{HasValue, odd-sign}
-use Rattle.numbers.specs.Rounding.{move, cutTo, limit, settled, dropped, rounded, beyond, Floor, Ceil, Near, Names, apart, NoneNearer}
+use Rattle.numbers.specs.Rounding.{cutTo, limit, dropped, rounded, Floor, Ceil, Near, Names, apart, NoneNearer}
 use Rattle.numbers.specs.Convert.{narrowed}
-use Rattle.numbers.specs.Integer.{clamped, integerOf, toInteger}
+use Rattle.numbers.specs.Integer.{clamped, toInteger}
 use Rattle.numbers.specs.Root.{isqrt, rootCut, rootOf, sqrtOf, NearRoot}
 use Rattle.numbers.specs.declared.rounding.Rounding.{Rounding}
 use Rattle.numbers.specs.declared.rounding.Rounding.the-variants.{Nearest, Up, Down, Zero}
 use Rattle.numbers.proofs.Order.{Cmp, cmp}
-use Rattle.numbers.proofs.Units.{Lead, hid-pos, twice-hid, prec-pos}
+use Rattle.numbers.proofs.Units.{Lead, prec-pos}
 use Rattle.numbers.proofs.Formed.{lead-digit, root-k, root-c, root-word, root-keeps}
 use Rattle.numbers.proofs.Laws.{reaches}
 use Rattle.numbers.proofs.Squares.{is-root, isqrt-lt}

@@ -1,24 +1,23 @@
 -- The square root of a pattern by its fields. Over the mode and the format. Assumes nothing.
 use mathlib.Core.Path.{_≡_, refl, sym, ap, _∙_, subst}
-use mathlib.Core.Logic.{_⊎_, inl, inr}
+use mathlib.Core.Logic.{inl, inr}
 use mathlib.Core.Bool.{Bool, true, false, not, cond}
-use Prim.Native.Nat.{ℕ, zero, suc, _+_, _-_, _*_, _/_, _%_, _^_, _≤_, _<_, min}
-use native.Mathlib.Nat.{le-trans, le-of-eq, le-refl, lt-of-lt-of-le, lt-of-le-of-lt, zero-lt-suc, zero-mul, zero-add, mul-one, mul-assoc, mul-comm, mul-right-comm, mul-pos, mul-le-mul-right, mul-lt-mul-of-pos-right, lt-of-mul-lt-mul-right, le-of-mul-le-mul-right, mul-div-cancel, div-lt-iff-lt-mul, mod-lt, eq-or-lt-of-le, le-of-suc-le-suc, eq-zero-or-pos, min-eq-left, suc-mul, not-le-of-lt, div-add-mod', mod-mod-of-dvd, dvd-mul-right, add-assoc, add-mul, div-one, mod-eq-of-lt, lt-of-not-le, mul-le-mul-left}
-use native.Mathlib.Decide.{decLe}
+use Prim.Native.Nat.{ℕ, zero, suc, _+_, _-_, _*_, _/_, _%_, _^_, _≤_, _<_}
+use native.Mathlib.Nat.{le-trans, le-of-eq, lt-of-lt-of-le, zero-mul, zero-add, mul-assoc, mul-comm, mul-pos, mul-le-mul-right, mul-lt-mul-of-pos-right, lt-of-mul-lt-mul-right, le-of-mul-le-mul-right, mul-div-cancel, mod-lt, eq-or-lt-of-le, eq-zero-or-pos, min-eq-left, not-le-of-lt, div-add-mod', mod-mod-of-dvd, dvd-mul-right, add-assoc, add-mul, div-one, mod-eq-of-lt, lt-of-not-le}
 use native.Mathlib.Omega.{arith}
 use lib.IntN.{pos}
 use lib.Dec.{T, leb, lit≤, lit<, le→leb}
 use lib.Arith.{lt→nleb}
 use lib.Pow.{pow-add, pow-pos, pow-mono, shl-lt}
-use lib.Ieee.{Float, nan, inf, fin, Format, binary32, binary64, prec, low, up, down, hid, ones, top, odd, ofBits, ofFields, toBits, isNan}
+use lib.Ieee.{Float, nan, inf, fin, Format, binary32, binary64, prec, low, up, down, hid, ones, top, ofBits, toBits, isNan}
 use lib.Ieee.Fits.{down-pos}
 use lib.Ieee.Bits.{is-true, is-false, toBits-ofBits}
 use lib.Ieee.Exact.{HasValue}
 use Rattle.numbers.specs.declared.rounding.Rounding.{Rounding}
-use Rattle.numbers.specs.Rounding.{ceiling, packed}
+use Rattle.numbers.specs.Rounding.{ceiling}
 use Rattle.numbers.specs.Root.{isqrt, rootCut, rootOf, sqrtOf}
 use Rattle.numbers.specs.Convert.{Lifted}
-use Rattle.numbers.proofs.Units.{Lead, prec-pos, slide, twice-hid, hid-pos, reads-low, reads-mid, reads-inf, reads-zero}
+use Rattle.numbers.proofs.Units.{prec-pos, slide, twice-hid, hid-pos, reads-low, reads-mid, reads-inf, reads-zero, reads-normal, field-le}
 use Rattle.numbers.proofs.Patterns.{nan-of-fields}
 use Rattle.numbers.proofs.Cutting.{move-le}
 use Rattle.numbers.proofs.Written.{ceiling-ge}
@@ -36,15 +35,12 @@ negative-value mode f (fin t zero e) a c h p = absurd (none (a * down e) (mul-po
     none y p z = omega arith
 negative-value mode f (fin t (suc m) e) a c h p = ap (λ (b : Bool). cond b nan (rootOf mode f (suc m * up e) (down e))) (h .0)
 
-exp-in : (f : Format) (b : ℕ) → b % top f / hid f ≤ ones f
-exp-in f b = le-of-suc-le-suc (div-lt-iff-lt-mul (hid-pos f) .1 (subst (λ (a : ℕ). b % top f < a) (mul-comm (hid f) (suc (ones f))) (mod-lt b (mul-pos (hid-pos f) (zero-lt-suc (ones f))))))
-
 split : (f : Format) (b : ℕ) → b % top f / hid f * hid f + b % hid f ≡ b % top f
 split f b = ap (λ (y : ℕ). b % top f / hid f * hid f + y) (sym (mod-mod-of-dvd (hid f) b (dvd-mul-right (hid f) (suc (ones f))))) ∙ div-add-mod' (b % top f) (hid f)
 
 pub sqrt-negative : (mode : Rounding) (f : Format) (b : ℕ) → 0 < b % top f → top f ≤ b → sqrtOf mode f (ofBits f b) ≡ nan
 unfolding sqrtOf
-sqrt-negative mode f b p n = go (b % top f / hid f) refl (exp-in f b)
+sqrt-negative mode f b p n = go (b % top f / hid f) refl (field-le f b)
   where
     neg : leb (top f) b ≡ true
     neg = is-true (leb (top f) b) (le→leb (top f) b n)
@@ -258,14 +254,11 @@ pub root-mid : (mode : Rounding) (f : Format) (b m kept : ℕ) → b < top f →
 root-mid mode f b m kept h n o d k =
     let x = b % top f / hid f in
     root-at mode f (ofBits f b) (hid f + b % hid f) (x - 1) (rise f) (x + shift f) m kept
-    (positive f b ((hid f + b % hid f) * 2 ^ (x - 1)) (2 ^ low f) h (reads-mid f b (x - 1) (back x n) (under x (ones f) n o (exp-in f b)))) d
+    (positive f b ((hid f + b % hid f) * 2 ^ (x - 1)) (2 ^ low f) h (reads-normal f b n o)) d
     (subst (λ (z : ℕ). 2 ^ 52 ≤ z) (sym d) (le-trans (first f) (mul-le-mul-right (2 ^ rise f) (grow (hid f) (b % hid f)))))
     (subst (λ (z : ℕ). z < 2 ^ 53) (sym d) (lt-of-lt-of-le (mul-lt-mul-of-pos-right (below-twice (hid f) (b % hid f) (mod-lt b (hid-pos f))) (pow-pos (rise f))) (last f)))
-    (counted f x n) (enough f) (under x (ones f) n o (exp-in f b)) k
+    (counted f x n) (enough f) (under x (ones f) n o (field-le f b)) k
   where
-    back : (x : ℕ) → (x ≡ 0 → ⊥) → x ≡ suc (x - 1)
-    back x p = omega arith
-
     under : (x o : ℕ) → (x ≡ 0 → ⊥) → (x ≡ o → ⊥) → x ≤ o → suc (x - 1) < o
     under x o n d h = omega arith
 

@@ -1,16 +1,15 @@
 -- The whole square root, and what `sqrtOf` writes. Over the mode and the format. Assumes nothing.
-use mathlib.Core.Path.{_≡_, refl, sym, ap, _∙_, subst}
-use mathlib.Core.Logic.{_⊎_, inl, inr}
+use mathlib.Core.Path.{_≡_, sym, ap, _∙_, subst}
+use mathlib.Core.Logic.{inl, inr}
 use mathlib.Core.Bool.{Bool, true, false, not, cond}
-use Prim.Native.Nat.{ℕ, zero, suc, _+_, _-_, _*_, _/_, _%_, _^_, _≤_, _<_, compare, Ordering}
-use native.Mathlib.Nat.{le-trans, le-of-eq, le-refl, le-of-lt, lt-of-lt-of-le, lt-of-le-of-lt, zero-lt-suc, le-antisymm, not-le-of-lt, lt-of-not-le, le-of-suc-le-suc, mul-one, mul-assoc, mul-comm, mul-right-comm, mul-left-comm, mul-mul-mul-comm, mul-pos, mul-le-mul, mul-le-mul-right, mul-le-mul-left, mul-div-cancel, div-lt-iff-lt-mul, le-div-iff-mul-le, div-mul-le-self, lt-suc-self, mul-add, add-mul, eq-of-mul-eq-mul-right, mul-lt-mul-of-pos-right, div-one, zero-mul, pow-le-pow-left, pow-succ', pow-suc}
-use native.Mathlib.Numerals.{add-one}
+use Prim.Native.Nat.{ℕ, zero, suc, _+_, _-_, _*_, _/_, _^_, _≤_, _<_, compare, Ordering}
+use native.Mathlib.Nat.{le-trans, le-of-eq, lt-of-lt-of-le, zero-lt-suc, le-antisymm, not-le-of-lt, lt-of-not-le, le-of-suc-le-suc, mul-one, mul-assoc, mul-comm, mul-right-comm, mul-mul-mul-comm, mul-pos, mul-le-mul, mul-le-mul-right, mul-div-cancel, div-lt-iff-lt-mul, le-div-iff-mul-le, eq-of-mul-eq-mul-right, mul-lt-mul-of-pos-right, div-one, zero-mul, pow-le-pow-left, pow-suc}
 use native.Mathlib.Omega.{arith}
 use lib.Dec.{T, lit≤, leb, eqb, isEq, leb→le, nleb→lt}
-use lib.Pow.{pow-add, pow-pos, pow-mono}
-use lib.Ieee.{Float, nan, inf, fin, Format, prec, low, up, down, size, hid, top, toBits}
+use lib.Pow.{pow-add, pow-pos}
+use lib.Ieee.{Float, nan, inf, fin, Format, prec, low, up, down, size, hid, toBits}
 use lib.Ieee.Digits.{size-lt}
-use lib.Ieee.Fits.{down-pos, up-pos}
+use lib.Ieee.Fits.{down-pos}
 use lib.Ieee.Exact.{HasValue}
 use Rattle.numbers.specs.declared.rounding.Rounding.{Rounding}
 use Rattle.numbers.specs.Rounding.{move, settled, dropped, packed}

@@ -2,21 +2,20 @@
 -- Assumes nothing.
 use mathlib.Core.Path.{_≡_, refl, sym, ap, _∙_, subst}
 use mathlib.Core.Logic.{_⊎_, inl, inr}
-use mathlib.Core.Bool.{Bool, true, false, not, cond}
-use Prim.Native.Nat.{ℕ, zero, suc, _+_, _-_, _*_, _/_, _%_, _^_, _≤_, _<_, min, zero-le, compare}
-use native.Mathlib.Nat.{le-trans, le-of-eq, le-refl, le-of-lt, lt-of-lt-of-le, lt-of-le-of-lt, lt-irrefl, zero-lt-suc, eq-or-lt-of-le, le-antisymm, not-le-of-lt, lt-of-not-le, le-of-suc-le-suc, mul-one, one-mul, zero-mul, eq-of-mul-eq-mul-right, mod-mod-of-dvd, dvd-mul-right, zero-div, zero-mod, zero-add, add-zero, add-assoc, mul-assoc, mul-comm, mul-right-comm, mul-left-comm, suc-mul, mul-pos, mul-le-mul-right, mul-le-mul-left, mul-lt-mul-of-pos-right, mul-div-cancel, div-one, div-mul-le-self, div-lt-iff-lt-mul, le-div-iff-mul-le, div-div-eq-div-mul, pow-succ', min-eq-left, min-eq-right, eq-zero-or-pos}
-use native.Mathlib.Decide.{decLe, decLt}
+use mathlib.Core.Bool.{Bool, cond}
+use Prim.Native.Nat.{ℕ, zero, suc, _+_, _-_, _*_, _/_, _%_, _^_, _≤_, _<_}
+use native.Mathlib.Nat.{le-trans, le-of-eq, lt-of-lt-of-le, zero-lt-suc, le-antisymm, not-le-of-lt, lt-of-not-le, le-of-suc-le-suc, one-mul, zero-mul, eq-of-mul-eq-mul-right, mod-lt, mod-mod-of-dvd, dvd-mul-right, zero-div, zero-mod, add-assoc, mul-assoc, mul-comm, mul-right-comm, mul-pos, mul-le-mul-right, mul-div-cancel, div-mul-le-self, div-lt-iff-lt-mul, le-div-iff-mul-le}
+use native.Mathlib.Decide.{decLe}
 use native.Mathlib.Omega.{arith}
-use lib.IntN.{ℤ, pos, negsuc}
+use lib.IntN.{ℤ, pos}
 use lib.Arith.{lt→nleb, lt-one}
-use lib.Dec.{T, le→leb, leb, ltb, eqb, eqb→eq, not-T, ltb→lt, lt→ltb, nltb→le}
-use lib.Pow.{pow-add, pow-pos, pow-mono, pow-lt, shl-lt}
-use lib.Ieee.{Float, nan, inf, fin, Format, binary32, binary64, prec, emax, low, up, down, size, odd, units, round, hid, ones, top, ofBits, ofFields, toBits, nearest}
-use lib.Ieee.Digits.{size-lt, size-le, size-reaches}
-use lib.Ieee.Fits.{two, reach, down-pos, two-le-pos, round-is, nearest-le}
+use lib.Dec.{T, le→leb, leb, eqb, eqb→eq, not-T}
+use lib.Pow.{pow-add, pow-pos, pow-mono}
+use lib.Ieee.{Float, nan, inf, fin, Format, binary32, binary64, prec, low, up, down, size, odd, units, hid, ones, top, ofBits, ofFields, toBits}
+use lib.Ieee.Digits.{size-lt, size-le}
+use lib.Ieee.Fits.{two, down-pos, two-le-pos}
 use lib.Ieee.Bits.{is-true, is-false, cond-no}
-use lib.Ieee.Exact.{HasValue, odd-sign, units-val}
-use lib.Ieee.Nearest.{closest, closest-same, nearest-ge, div-same}
+use lib.Ieee.Exact.{HasValue, odd-sign}
 
 -- ---- how many digits are dropped
 
@@ -158,3 +157,17 @@ reads-zero f b z =
     ∙ ap (λ (x : ℕ). ofFields f (leb (top f) b) x (b % hid f)) (zero-div (hid f))
     ∙ ap (λ (x : ℕ). ofFields f (leb (top f) b) 0 x) (sym (mod-mod-of-dvd (hid f) b (dvd-mul-right (hid f) (suc (ones f)))) ∙ ap (λ (x : ℕ). x % hid f) z ∙ zero-mod (hid f))
     ∙ at-zero f (leb (top f) b) 0
+
+-- a normal value by its field
+pub field-le : (f : Format) (b : ℕ) → b % top f / hid f ≤ ones f
+field-le f b = le-of-suc-le-suc (div-lt-iff-lt-mul (hid-pos f) .1 (subst (λ (a : ℕ). b % top f < a) (mul-comm (hid f) (suc (ones f))) (mod-lt b (mul-pos (hid-pos f) (zero-lt-suc (ones f))))))
+
+pub reads-normal : (f : Format) (b : ℕ) → (b % top f / hid f ≡ 0 → ⊥) → (b % top f / hid f ≡ ones f → ⊥)
+    → HasValue (ofBits f b) (leb (top f) b) ((hid f + b % hid f) * 2 ^ (b % top f / hid f - 1)) (2 ^ low f)
+reads-normal f b n o = reads-mid f b (b % top f / hid f - 1) (back (b % top f / hid f) n) (under (b % top f / hid f) (ones f) n o (field-le f b))
+  where
+    back : (x : ℕ) → (x ≡ 0 → ⊥) → x ≡ suc (x - 1)
+    back x p = omega arith
+
+    under : (x o : ℕ) → (x ≡ 0 → ⊥) → (x ≡ o → ⊥) → x ≤ o → suc (x - 1) < o
+    under x o n d h = omega arith

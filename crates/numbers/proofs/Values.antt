@@ -1,7 +1,6 @@
 -- Values that the definitions are held against, each computed. Assumes nothing.
 use mathlib.Core.Path.{_≡_, refl}
 use mathlib.Core.Bool.{true, false}
-use Prim.Native.Nat.{ℕ}
 use lib.Ieee.{binary32, binary64, ofBits, toBits, odd, eq, lt, isNan}
 use Rattle.numbers.specs.Compare.{compareFlags}
 use Rattle.numbers.specs.Flush.{flush}

@@ -1,22 +1,22 @@
 -- Integers to floats, and floats to integers. Assumes nothing.
 use mathlib.Core.Path.{_≡_, refl, sym, ap, _∙_, subst}
 use mathlib.Core.Bool.{Bool, true, false, _&&_, cond}
-use Prim.Native.Nat.{ℕ, suc, _+_, _-_, _*_, _/_, _%_, _^_, _≤_, _<_, min}
+use Prim.Native.Nat.{ℕ, _+_, _-_, _*_, _/_, _%_, _^_, _≤_, _<_, min}
 use native.Mathlib.Nat.{le-trans, lt-of-lt-of-le, mul-one, mul-assoc, mul-le-mul, mod-eq-of-lt, le-div-iff-mul-le}
 use native.Mathlib.Omega.{arith}
 use lib.Dec.{leb, lit≤, lit<}
 use lib.Pow.{pow-add, pow-pos, pow-mono}
-use lib.Ieee.{Float, nan, inf, fin, Format, binary32, binary64, low, up, down, hid, ones, top, ofBits, toBits}
+use lib.Ieee.{Float, nan, inf, fin, Format, binary32, binary64, up, down, top, ofBits, toBits}
 use lib.Ieee.Fits.{down-pos, fits-widens}
 use lib.Ieee.Bits.{ofBits-toBits, ofBits-fits}
 use lib.Ieee.Exact.{HasValue}
 use borrow.Author.Tests.{le-leb, lt-leb}
 use Rattle.numbers.specs.Rounding.{cutTo, rounded, IsCut, IsSettled}
-use Rattle.numbers.specs.Integer.{integerValue, fromInteger, clamped, integerOf, toInteger}
+use Rattle.numbers.specs.Integer.{fromInteger, clamped, integerOf, toInteger}
 use Rattle.numbers.specs.Convert.{widen, Lifted}
 use Rattle.numbers.specs.declared.rounding.Rounding.{Rounding}
 use Rattle.numbers.specs.declared.rounding.Rounding.the-variants.{Nearest}
-use Rattle.numbers.proofs.Units.{slide, reads-low, reads-mid, reads-inf}
+use Rattle.numbers.proofs.Units.{reads-low, reads-normal, reads-inf}
 use Rattle.numbers.proofs.Patterns.{nan-of-fields}
 use Rattle.numbers.proofs.Cutting.{move-ge, cut-same, cut-far}
 use Rattle.numbers.proofs.Settle.{settled-same}
@@ -124,21 +124,12 @@ module _ (mode : Rounding) (g : Bool) (b r : ℕ) where
       few : (b : ℕ) → digits b < 2 ^ 62
       few b = omega arith
 
-  at : (field b ≡ 0 → ⊥) → (field b ≡ 2047 → ⊥) → HasValue (ofBits binary64 b) (neg b) ((0x10_0000_0000_0000 + digits b) * 2 ^ (field b - 1)) (2 ^ 1074)
-  at some last = reads-mid binary64 b (field b - 1) (back (field b) some) (under b some last)
-    where
-      back : (x : ℕ) → (x ≡ 0 → ⊥) → x ≡ suc (x - 1)
-      back x p = omega arith
-
-      under : (b : ℕ) → (field b ≡ 0 → ⊥) → (field b ≡ 2047 → ⊥) → suc (field b - 1) < 2047
-      under b p n = omega arith
-
   pub int-mid : (sh kept : ℕ) (t : Bool) → (field b ≡ 0 → ⊥) → (field b ≡ 2047 → ⊥) → field b ≤ 1054 → sh ≡ min (1075 - field b) 63
       → IsCut mode (neg b) (0x10_0000_0000_0000 + digits b) (2 ^ sh) kept t → r ≡ clamped g (neg b) kept → r ≡ toInteger binary64 mode g b
   unfolding toInteger
   int-mid sh kept t some last h d p e =
       e
-      ∙ by-cut mode g (ofBits binary64 b) (neg b) (0x10_0000_0000_0000 + digits b) (field b - 1) (1075 - field b) kept t (at some last) (exps (field b) some h) (few b)
+      ∙ by-cut mode g (ofBits binary64 b) (neg b) (0x10_0000_0000_0000 + digits b) (field b - 1) (1075 - field b) kept t (reads-normal binary64 b some last) (exps (field b) some h) (few b)
       (subst (λ (z : ℕ). IsCut mode (neg b) (0x10_0000_0000_0000 + digits b) (2 ^ z) kept t) d p)
     where
       exps : (x : ℕ) → (x ≡ 0 → ⊥) → x ≤ 1054 → x - 1 + (1075 - x) ≡ 1074
@@ -152,7 +143,7 @@ module _ (mode : Rounding) (g : Bool) (b r : ℕ) where
   int-large some last h e =
       e
       ∙ clamp-large g (neg b) _ (le-trans (le-div-iff-mul-le (pow-pos 1074) .1 reaches) (move-ge mode (neg b) ((0x10_0000_0000_0000 + digits b) * 2 ^ (field b - 1) / 2 ^ 1074) _ _))
-      ∙ sym (integer-value mode g (ofBits binary64 b) (neg b) ((0x10_0000_0000_0000 + digits b) * 2 ^ (field b - 1)) (2 ^ 1074) (pow-pos 1074) (at some last))
+      ∙ sym (integer-value mode g (ofBits binary64 b) (neg b) ((0x10_0000_0000_0000 + digits b) * 2 ^ (field b - 1)) (2 ^ 1074) (pow-pos 1074) (reads-normal binary64 b some last))
     where
       lead : (b : ℕ) → 2 ^ 52 ≤ 0x10_0000_0000_0000 + digits b
       lead b = omega arith

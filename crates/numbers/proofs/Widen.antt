@@ -1,17 +1,17 @@
 -- Widening a single: what its pattern's fields become in the double of the same value. Assumes nothing.
 use mathlib.Core.Path.{_≡_, refl, sym, ap, _∙_, subst}
 use mathlib.Core.Logic.{inl, inr}
-use mathlib.Core.Bool.{Bool, true, false, cond}
+use mathlib.Core.Bool.{Bool, cond}
 use Prim.Native.Nat.{ℕ, suc, _+_, _-_, _*_, _/_, _%_, _^_, _≤_, _<_}
-use native.Mathlib.Nat.{mul-one, mul-assoc, add-zero, zero-add, mod-eq-of-lt, lt-of-lt-of-le, lt-of-le-of-lt, le-trans, le-of-eq, mul-le-mul-right, le-of-suc-le-suc, lt-of-not-le, not-le-of-lt}
+use native.Mathlib.Nat.{mul-assoc, add-zero, zero-add, mod-eq-of-lt, lt-of-lt-of-le, lt-of-le-of-lt, le-trans, le-of-eq, mul-le-mul-right, le-of-suc-le-suc, lt-of-not-le, not-le-of-lt}
 use native.Mathlib.Omega.{arith}
 use lib.Dec.{leb, lit≤, lit<}
 use lib.Pow.{pow-add, pow-pos, pow-mono, shl-lt}
 use lib.Count.{leadingZeros, leading-top}
-use lib.Ieee.{Float, inf, Format, binary32, binary64, low, hid, top, ofBits, toBits}
+use lib.Ieee.{Float, binary32, binary64, low, top, ofBits, toBits}
 use lib.Ieee.Exact.{HasValue}
 use Rattle.numbers.specs.Convert.{Lifted}
-use Rattle.numbers.proofs.Units.{Lead, writes, reads-low, reads-mid, reads-inf, rescale, slide, sign-bit}
+use Rattle.numbers.proofs.Units.{writes, reads-low, reads-mid, reads-inf, rescale, slide, sign-bit}
 use Rattle.numbers.proofs.Patterns.{nan-of-fields}
 
 -- ---- the move up by the leading zeros

@@ -3,9 +3,6 @@ use Prim.Native.Nat.{_≤_, _-_}
 use lib.ListN.{length}
 use Rattle.vectors.proofs.feed_all.Statement.{statement}
 use Rattle.vectors.proofs.feed_all.Tie as tie
-use Rattle.vectors.proofs.feed_all.Reads as reads
-use Rattle.vectors.proofs.feed_all.Lts as lts
-use Rattle.vectors.proofs.lines.feed.Reads as feed-reads
 
 abbrev Inv-loop : tie.InvT-loop
 Inv-loop sort b r₀ i₀ r i = i ≤ length b

@@ -1,12 +1,6 @@
 use borrow.Author.Needs.{needs}
 use Rattle.vectors.proofs.read_all.Statement.{statement}
 use Rattle.vectors.proofs.read_all.Tie as tie
-use Rattle.vectors.proofs.read_all.Reads as reads
-use Rattle.vectors.proofs.read_all.Lts as lts
-use Rattle.io.proofs.buffer.Reads as buffer-reads
-use Rattle.io.proofs.read_full.Reads as read-full-reads
-use Rattle.vectors.proofs.feed_all.Reads as feed-all-reads
-use Rattle.vectors.proofs.lines.start.Reads as start-reads
 
 abbrev Inv-loop : tie.InvT-loop
 Inv-loop fd sort t₀ turns₀ t turns = Unit {0}

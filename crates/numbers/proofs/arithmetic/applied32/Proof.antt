@@ -4,12 +4,6 @@ use Rattle.numbers.proofs.Applying.{nan-n, nan-m, nan-d, worked, worked
 use borrow.Author.Needs.{needs}
 use Rattle.numbers.proofs.arithmetic.applied32.Statement.{statement}
 use Rattle.numbers.proofs.arithmetic.applied32.Tie as tie
-use Rattle.numbers.proofs.arithmetic.applied32.Reads as reads
-use Rattle.numbers.proofs.arithmetic.applied32.Lts as lts
-use Rattle.numbers.proofs.arithmetic.apply32.Reads as apply32-reads
-use Rattle.numbers.proofs.arithmetic.reads_d.Reads as reads-d-reads
-use Rattle.numbers.proofs.word.bits32.Reads as bits32-reads
-use Rattle.numbers.proofs.word.float32.Reads as float32-reads
 
 returns : tie.Need-returns
 returns c = nan-n binary32 (c .before .args .kind) (c .before .args .n) (c .before .args .m) (c .before .args .d) (c .if1 .taken)

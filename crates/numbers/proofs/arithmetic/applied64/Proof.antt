@@ -4,12 +4,6 @@ use Rattle.numbers.proofs.Applying.{nan-n, nan-m, nan-d, worked, worked
 use borrow.Author.Needs.{needs}
 use Rattle.numbers.proofs.arithmetic.applied64.Statement.{statement}
 use Rattle.numbers.proofs.arithmetic.applied64.Tie as tie
-use Rattle.numbers.proofs.arithmetic.applied64.Reads as reads
-use Rattle.numbers.proofs.arithmetic.applied64.Lts as lts
-use Rattle.numbers.proofs.arithmetic.apply64.Reads as apply64-reads
-use Rattle.numbers.proofs.arithmetic.reads_d.Reads as reads-d-reads
-use Rattle.numbers.proofs.word.bits64.Reads as bits64-reads
-use Rattle.numbers.proofs.word.float64.Reads as float64-reads
 
 returns : tie.Need-returns
 returns c = nan-n binary64 (c .before .args .kind) (c .before .args .n) (c .before .args .m) (c .before .args .d) (c .if1 .taken)

@@ -1,8 +1,6 @@
 use borrow.Author.Needs.{needs}
 use Rattle.numbers.proofs.arithmetic.apply32.Statement.{statement}
 use Rattle.numbers.proofs.arithmetic.apply32.Tie as tie
-use Rattle.numbers.proofs.arithmetic.apply32.Reads as reads
-use Rattle.numbers.proofs.arithmetic.apply32.Lts as lts
 
 -- src/arithmetic.rt:66:47
 enum-told : tie.Need-enum-told

@@ -1,8 +1,6 @@
 use borrow.Author.Needs.{needs}
 use Rattle.numbers.proofs.arithmetic.apply64.Statement.{statement}
 use Rattle.numbers.proofs.arithmetic.apply64.Tie as tie
-use Rattle.numbers.proofs.arithmetic.apply64.Reads as reads
-use Rattle.numbers.proofs.arithmetic.apply64.Lts as lts
 
 -- src/arithmetic.rt:85:47
 enum-told : tie.Need-enum-told

@@ -3,10 +3,6 @@ use Rattle.numbers.proofs.Applying.{stored}
 use borrow.Author.Needs.{needs}
 use Rattle.numbers.proofs.arithmetic.arithmetic32.Statement.{statement}
 use Rattle.numbers.proofs.arithmetic.arithmetic32.Tie as tie
-use Rattle.numbers.proofs.arithmetic.arithmetic32.Reads as reads
-use Rattle.numbers.proofs.arithmetic.arithmetic32.Lts as lts
-use Rattle.numbers.proofs.arithmetic.applied32.Reads as applied32-reads
-use Rattle.numbers.proofs.flush.flush32.Reads as flush32-reads
 
 applied32-requires : tie.Need-applied32-requires
 applied32-requires c κs = search needs

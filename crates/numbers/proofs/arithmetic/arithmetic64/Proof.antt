@@ -3,10 +3,6 @@ use Rattle.numbers.proofs.Applying.{stored}
 use borrow.Author.Needs.{needs}
 use Rattle.numbers.proofs.arithmetic.arithmetic64.Statement.{statement}
 use Rattle.numbers.proofs.arithmetic.arithmetic64.Tie as tie
-use Rattle.numbers.proofs.arithmetic.arithmetic64.Reads as reads
-use Rattle.numbers.proofs.arithmetic.arithmetic64.Lts as lts
-use Rattle.numbers.proofs.arithmetic.applied64.Reads as applied64-reads
-use Rattle.numbers.proofs.flush.flush64.Reads as flush64-reads
 
 applied64-requires : tie.Need-applied64-requires
 applied64-requires c κs = search needs

@@ -4,9 +4,6 @@ use Rattle.numbers.proofs.Flags.{nan-l, nan-r, equal, ordered}
 use borrow.Author.Needs.{needs}
 use Rattle.numbers.proofs.compare.compare32.Statement.{statement}
 use Rattle.numbers.proofs.compare.compare32.Tie as tie
-use Rattle.numbers.proofs.compare.compare32.Reads as reads
-use Rattle.numbers.proofs.compare.compare32.Lts as lts
-use Rattle.numbers.proofs.word.float32.Reads as float32-reads
 
 float32-requires : tie.Need-float32-requires
 float32-requires c κs = search needs

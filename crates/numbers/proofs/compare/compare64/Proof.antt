@@ -4,9 +4,6 @@ use Rattle.numbers.proofs.Flags.{nan-l, nan-r, equal, ordered}
 use borrow.Author.Needs.{needs}
 use Rattle.numbers.proofs.compare.compare64.Statement.{statement}
 use Rattle.numbers.proofs.compare.compare64.Tie as tie
-use Rattle.numbers.proofs.compare.compare64.Reads as reads
-use Rattle.numbers.proofs.compare.compare64.Lts as lts
-use Rattle.numbers.proofs.word.float64.Reads as float64-reads
 
 float64-requires : tie.Need-float64-requires
 float64-requires c κs = search needs

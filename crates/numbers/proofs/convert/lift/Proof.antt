@@ -3,8 +3,6 @@ use native.Mathlib.Omega.{arith}
 use lib.Count.{leading-le}
 use Rattle.numbers.proofs.convert.lift.Statement.{statement}
 use Rattle.numbers.proofs.convert.lift.Tie as tie
-use Rattle.numbers.proofs.convert.lift.Reads as reads
-use Rattle.numbers.proofs.convert.lift.Lts as lts
 
 cast-result : tie.Need-cast-result
 cast-result c = omega (arith, leading-le 64 (c .args .t))

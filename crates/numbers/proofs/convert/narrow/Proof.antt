@@ -2,10 +2,6 @@ use Rattle.numbers.proofs.Narrow.{narrow-is}
 use borrow.Author.Needs.{needs}
 use Rattle.numbers.proofs.convert.narrow.Statement.{statement}
 use Rattle.numbers.proofs.convert.narrow.Tie as tie
-use Rattle.numbers.proofs.convert.narrow.Reads as reads
-use Rattle.numbers.proofs.convert.narrow.Lts as lts
-use Rattle.numbers.proofs.convert.narrowed32.Reads as narrowed32-reads
-use Rattle.numbers.proofs.flush.flush32.Reads as flush32-reads
 
 narrowed32-requires : tie.Need-narrowed32-requires
 narrowed32-requires c κs = search needs

@@ -7,10 +7,6 @@ use Rattle.numbers.proofs.Narrow.{narrow-inf, narrow-nan, narrow-low, n
 use borrow.Author.Needs.{needs}
 use Rattle.numbers.proofs.convert.narrowed32.Statement.{statement}
 use Rattle.numbers.proofs.convert.narrowed32.Tie as tie
-use Rattle.numbers.proofs.convert.narrowed32.Reads as reads
-use Rattle.numbers.proofs.convert.narrowed32.Lts as lts
-use Rattle.numbers.proofs.rounding.settle32.Reads as settle32-reads
-use Rattle.numbers.proofs.rounding.sign32.Reads as sign32-reads
 
 sign32-requires : tie.Need-sign32-requires
 sign32-requires c κs = search needs

@@ -3,9 +3,6 @@ use Rattle.numbers.proofs.Widen.{wide-inf, wide-nan, wide-mid, wide-zer
 use borrow.Author.Needs.{needs}
 use Rattle.numbers.proofs.convert.widen.Statement.{statement}
 use Rattle.numbers.proofs.convert.widen.Tie as tie
-use Rattle.numbers.proofs.convert.widen.Reads as reads
-use Rattle.numbers.proofs.convert.widen.Lts as lts
-use Rattle.numbers.proofs.convert.lift.Reads as lift-reads
 
 mul-sign : tie.Need-mul-sign
 mul-sign c = search needs

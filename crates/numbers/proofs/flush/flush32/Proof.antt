@@ -3,8 +3,6 @@ use Rattle.numbers.proofs.Flushing.{flush-off, flush-small, flush-large
 use borrow.Author.Needs.{needs}
 use Rattle.numbers.proofs.flush.flush32.Statement.{statement}
 use Rattle.numbers.proofs.flush.flush32.Tie as tie
-use Rattle.numbers.proofs.flush.flush32.Reads as reads
-use Rattle.numbers.proofs.flush.flush32.Lts as lts
 
 returns : tie.Need-returns
 returns c = flush-off binary32 (c .before .args .control) (c .before .args .bits) (c .if1 .taken)

@@ -3,8 +3,6 @@ use Rattle.numbers.proofs.Flushing.{flush-off, flush-small, flush-large
 use borrow.Author.Needs.{needs}
 use Rattle.numbers.proofs.flush.flush64.Statement.{statement}
 use Rattle.numbers.proofs.flush.flush64.Tie as tie
-use Rattle.numbers.proofs.flush.flush64.Reads as reads
-use Rattle.numbers.proofs.flush.flush64.Lts as lts
 
 returns : tie.Need-returns
 returns c = flush-off binary64 (c .before .args .control) (c .before .args .bits) (c .if1 .taken)

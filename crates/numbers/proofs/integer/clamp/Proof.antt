@@ -5,9 +5,6 @@ use mathlib.Core.Path.{sym, ap, _∙_}
 use borrow.Author.Needs.{needs}
 use Rattle.numbers.proofs.integer.clamp.Statement.{statement}
 use Rattle.numbers.proofs.integer.clamp.Tie as tie
-use Rattle.numbers.proofs.integer.clamp.Reads as reads
-use Rattle.numbers.proofs.integer.clamp.Lts as lts
-use Rattle.numbers.proofs.rounding.least.Reads as least-reads
 
 least-requires : tie.Need-least-requires
 least-requires c κs = search needs

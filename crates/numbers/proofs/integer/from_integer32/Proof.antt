@@ -3,9 +3,6 @@ use Rattle.numbers.proofs.Whole.{below-zero, signed-up, unsigned}
 use borrow.Author.Needs.{needs}
 use Rattle.numbers.proofs.integer.from_integer32.Statement.{statement}
 use Rattle.numbers.proofs.integer.from_integer32.Tie as tie
-use Rattle.numbers.proofs.integer.from_integer32.Reads as reads
-use Rattle.numbers.proofs.integer.from_integer32.Lts as lts
-use Rattle.numbers.proofs.integer.whole32.Reads as whole32-reads
 
 sub-whole32 : tie.Need-sub-whole32
 sub-whole32 c = search needs

@@ -3,9 +3,6 @@ use Rattle.numbers.proofs.Whole.{below-zero, signed-up, unsigned}
 use borrow.Author.Needs.{needs}
 use Rattle.numbers.proofs.integer.from_integer64.Statement.{statement}
 use Rattle.numbers.proofs.integer.from_integer64.Tie as tie
-use Rattle.numbers.proofs.integer.from_integer64.Reads as reads
-use Rattle.numbers.proofs.integer.from_integer64.Lts as lts
-use Rattle.numbers.proofs.integer.whole64.Reads as whole64-reads
 
 sub-whole64 : tie.Need-sub-whole64
 sub-whole64 c = search needs

@@ -2,10 +2,6 @@ use Rattle.numbers.proofs.Whole.{by-widening}
 use borrow.Author.Needs.{needs}
 use Rattle.numbers.proofs.integer.to_integer32.Statement.{statement}
 use Rattle.numbers.proofs.integer.to_integer32.Tie as tie
-use Rattle.numbers.proofs.integer.to_integer32.Reads as reads
-use Rattle.numbers.proofs.integer.to_integer32.Lts as lts
-use Rattle.numbers.proofs.convert.widen.Reads as widen-reads
-use Rattle.numbers.proofs.integer.to_integer64.Reads as to-integer64-reads
 
 widen-requires : tie.Need-widen-requires
 widen-requires c κs = search needs

@@ -2,11 +2,6 @@ use Rattle.numbers.proofs.Whole.{int-inf, int-nan, int-low, int-large, 
 use borrow.Author.Needs.{needs}
 use Rattle.numbers.proofs.integer.to_integer64.Statement.{statement}
 use Rattle.numbers.proofs.integer.to_integer64.Tie as tie
-use Rattle.numbers.proofs.integer.to_integer64.Reads as reads
-use Rattle.numbers.proofs.integer.to_integer64.Lts as lts
-use Rattle.numbers.proofs.integer.clamp.Reads as clamp-reads
-use Rattle.numbers.proofs.rounding.cut.Reads as cut-reads
-use Rattle.numbers.proofs.rounding.least.Reads as least-reads
 
 clamp-requires : tie.Need-clamp-requires
 clamp-requires c κs = search needs

@@ -6,10 +6,6 @@ use Rattle.numbers.proofs.Whole.{whole-zero, whole-some, whole-ready}
 use borrow.Author.Needs.{needs}
 use Rattle.numbers.proofs.integer.whole32.Statement.{statement}
 use Rattle.numbers.proofs.integer.whole32.Tie as tie
-use Rattle.numbers.proofs.integer.whole32.Reads as reads
-use Rattle.numbers.proofs.integer.whole32.Lts as lts
-use Rattle.numbers.proofs.convert.lift.Reads as lift-reads
-use Rattle.numbers.proofs.rounding.settle32.Reads as settle32-reads
 
 settle32-requires : tie.Need-settle32-requires
 settle32-requires c κs = (lit< tt, lit< tt, inl (lit< tt))

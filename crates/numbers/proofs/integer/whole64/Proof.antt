@@ -6,10 +6,6 @@ use Rattle.numbers.proofs.Whole.{whole-zero, whole-some, whole-ready}
 use borrow.Author.Needs.{needs}
 use Rattle.numbers.proofs.integer.whole64.Statement.{statement}
 use Rattle.numbers.proofs.integer.whole64.Tie as tie
-use Rattle.numbers.proofs.integer.whole64.Reads as reads
-use Rattle.numbers.proofs.integer.whole64.Lts as lts
-use Rattle.numbers.proofs.convert.lift.Reads as lift-reads
-use Rattle.numbers.proofs.rounding.settle64.Reads as settle64-reads
 
 settle64-requires : tie.Need-settle64-requires
 settle64-requires c κs = (lit< tt, lit< tt, inl (lit< tt))

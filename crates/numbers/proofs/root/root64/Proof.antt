@@ -1,15 +1,11 @@
 use Rattle.numbers.proofs.Sqrt.{sqrt-of-zero, root-nan, sqrt-negative, sqrt-of-inf, sqrt-of-nan, root-low, root-mid}
 use lib.Ieee.{binary64}
 use native.Mathlib.Nat.{mul-one}
-use mathlib.Core.Path.{refl, sym}
+use mathlib.Core.Path.{sym}
 use native.Mathlib.Omega.{arith}
 use borrow.Author.Needs.{needs}
 use Rattle.numbers.proofs.root.root64.Statement.{statement}
 use Rattle.numbers.proofs.root.root64.Tie as tie
-use Rattle.numbers.proofs.root.root64.Reads as reads
-use Rattle.numbers.proofs.root.root64.Lts as lts
-use Rattle.numbers.proofs.convert.lift.Reads as lift-reads
-use Rattle.numbers.proofs.root.rooted.Reads as rooted-reads
 
 returns : tie.Need-returns
 returns c = sqrt-of-zero (c .before .args .mode) binary64 (c .before .args .b) (c .before .fits .b .fits) (c .if1 .taken)

@@ -4,9 +4,6 @@ use Prim.Native.Nat.{_-_, _≤_}
 use native.Mathlib.Omega.{arith}
 use Rattle.numbers.proofs.root.root_digits.Statement.{statement}
 use Rattle.numbers.proofs.root.root_digits.Tie as tie
-use Rattle.numbers.proofs.root.root_digits.Reads as reads
-use Rattle.numbers.proofs.root.root_digits.Lts as lts
-use Rattle.numbers.proofs.root.digit.Reads as digit-reads
 
 abbrev Inv-loop : tie.InvT-loop
 Inv-loop x steps root₀ rest₀ left₀ i₀ root rest left i = (i ≤ steps) × After x i root rest left

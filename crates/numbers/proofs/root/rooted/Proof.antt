@@ -5,10 +5,6 @@ use native.Mathlib.Omega.{arith}
 use borrow.Author.Needs.{needs}
 use Rattle.numbers.proofs.root.rooted.Statement.{statement}
 use Rattle.numbers.proofs.root.rooted.Tie as tie
-use Rattle.numbers.proofs.root.rooted.Reads as reads
-use Rattle.numbers.proofs.root.rooted.Lts as lts
-use Rattle.numbers.proofs.root.root_digits.Reads as root-digits-reads
-use Rattle.numbers.proofs.rounding.step.Reads as step-reads
 
 add-root-digits : tie.Need-add-root-digits
 add-root-digits c = search needs

@@ -5,9 +5,6 @@ use Rattle.numbers.proofs.Laws.{root-unflushed}
 use borrow.Author.Needs.{needs}
 use Rattle.numbers.proofs.root.square_root32.Statement.{statement}
 use Rattle.numbers.proofs.root.square_root32.Tie as tie
-use Rattle.numbers.proofs.root.square_root32.Reads as reads
-use Rattle.numbers.proofs.root.square_root32.Lts as lts
-use Rattle.numbers.proofs.root.root32.Reads as root32-reads
 
 root32-requires : tie.Need-root32-requires
 root32-requires c κs = search needs

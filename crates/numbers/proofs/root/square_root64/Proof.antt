@@ -5,9 +5,6 @@ use Rattle.numbers.proofs.Laws.{root-unflushed}
 use borrow.Author.Needs.{needs}
 use Rattle.numbers.proofs.root.square_root64.Statement.{statement}
 use Rattle.numbers.proofs.root.square_root64.Tie as tie
-use Rattle.numbers.proofs.root.square_root64.Reads as reads
-use Rattle.numbers.proofs.root.square_root64.Lts as lts
-use Rattle.numbers.proofs.root.root64.Reads as root64-reads
 
 root64-requires : tie.Need-root64-requires
 root64-requires c κs = search needs

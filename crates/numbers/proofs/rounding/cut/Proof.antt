@@ -3,10 +3,6 @@ use Rattle.numbers.proofs.Cutting.{shift-pos, cut-is}
 use borrow.Author.Needs.{needs}
 use Rattle.numbers.proofs.rounding.cut.Statement.{statement}
 use Rattle.numbers.proofs.rounding.cut.Tie as tie
-use Rattle.numbers.proofs.rounding.cut.Reads as reads
-use Rattle.numbers.proofs.rounding.cut.Lts as lts
-use Rattle.numbers.proofs.rounding.power.Reads as power-reads
-use Rattle.numbers.proofs.rounding.step.Reads as step-reads
 
 power-requires : tie.Need-power-requires
 power-requires c κs = search needs

@@ -7,8 +7,6 @@ use mathlib.Core.Path.{refl, _∙_}
 use borrow.Author.Needs.{needs}
 use Rattle.numbers.proofs.rounding.moved.Statement.{statement}
 use Rattle.numbers.proofs.rounding.moved.Tie as tie
-use Rattle.numbers.proofs.rounding.moved.Reads as reads
-use Rattle.numbers.proofs.rounding.moved.Lts as lts
 
 returns : tie.Need-returns
 returns c = nothing-left (c .before .args .mode) (c .before .args .negative) (c .before .args .q) (c .before .args .rest) (c .before .args .unit) (c .before .pre .1) (c .if1 .taken)

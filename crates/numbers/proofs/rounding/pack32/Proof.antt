@@ -5,12 +5,6 @@ use native.Mathlib.Omega.{arith}
 use borrow.Author.Needs.{needs}
 use Rattle.numbers.proofs.rounding.pack32.Statement.{statement}
 use Rattle.numbers.proofs.rounding.pack32.Tie as tie
-use Rattle.numbers.proofs.rounding.pack32.Reads as reads
-use Rattle.numbers.proofs.rounding.pack32.Lts as lts
-use Rattle.numbers.proofs.rounding.ceiling32.Reads as ceiling32-reads
-use Rattle.numbers.proofs.rounding.cut.Reads as cut-reads
-use Rattle.numbers.proofs.rounding.least.Reads as least-reads
-use Rattle.numbers.proofs.rounding.sign32.Reads as sign32-reads
 
 cut-requires : tie.Need-cut-requires
 cut-requires c κs = search needs

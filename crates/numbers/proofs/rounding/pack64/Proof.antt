@@ -5,12 +5,6 @@ use native.Mathlib.Omega.{arith}
 use borrow.Author.Needs.{needs}
 use Rattle.numbers.proofs.rounding.pack64.Statement.{statement}
 use Rattle.numbers.proofs.rounding.pack64.Tie as tie
-use Rattle.numbers.proofs.rounding.pack64.Reads as reads
-use Rattle.numbers.proofs.rounding.pack64.Lts as lts
-use Rattle.numbers.proofs.rounding.ceiling64.Reads as ceiling64-reads
-use Rattle.numbers.proofs.rounding.cut.Reads as cut-reads
-use Rattle.numbers.proofs.rounding.least.Reads as least-reads
-use Rattle.numbers.proofs.rounding.sign64.Reads as sign64-reads
 
 cut-requires : tie.Need-cut-requires
 cut-requires c κs = search needs

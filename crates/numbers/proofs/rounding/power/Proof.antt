@@ -2,8 +2,6 @@ use Rattle.numbers.proofs.Cutting.{one-shl}
 use borrow.Author.Needs.{needs}
 use Rattle.numbers.proofs.rounding.power.Statement.{statement}
 use Rattle.numbers.proofs.rounding.power.Tie as tie
-use Rattle.numbers.proofs.rounding.power.Reads as reads
-use Rattle.numbers.proofs.rounding.power.Lts as lts
 
 shl-result : tie.Need-shl-result
 shl-result c = search needs

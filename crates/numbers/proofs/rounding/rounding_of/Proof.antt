@@ -1,8 +1,6 @@
 use Rattle.numbers.proofs.Cutting.{mode-nearest, mode-up, mode-down, mode-zero}
 use Rattle.numbers.proofs.rounding.rounding_of.Statement.{statement}
 use Rattle.numbers.proofs.rounding.rounding_of.Tie as tie
-use Rattle.numbers.proofs.rounding.rounding_of.Reads as reads
-use Rattle.numbers.proofs.rounding.rounding_of.Lts as lts
 
 returns : tie.Need-returns
 returns c = mode-nearest (c .before .args .control) (c .if1 .taken)

@@ -3,10 +3,6 @@ use Rattle.numbers.proofs.Settle.{settle-low, settle-high}
 use borrow.Author.Needs.{needs}
 use Rattle.numbers.proofs.rounding.settle64.Statement.{statement}
 use Rattle.numbers.proofs.rounding.settle64.Tie as tie
-use Rattle.numbers.proofs.rounding.settle64.Reads as reads
-use Rattle.numbers.proofs.rounding.settle64.Lts as lts
-use Rattle.numbers.proofs.rounding.least.Reads as least-reads
-use Rattle.numbers.proofs.rounding.pack64.Reads as pack64-reads
 
 sub-least : tie.Need-sub-least
 sub-least c = search needs
