@@ -1,0 +1,59 @@
+-- From the marks that a leaf leaves to those that its word means, over the precision.
+use Prim.Native.Nat.{ℕ, _%_, _^_}
+use mathlib.Core.Path.{_≡_, refl}
+use mathlib.Core.Bool.{Bool, true, false, cond}
+use mathlib.Core.List.{List}
+use lib.Ieee.{Format}
+use Rattle.machine.specs.Machine.{withFpscr}
+use Rattle.machine.specs.Place.{control, core, state}
+use Rattle.meaning.specs.declared.Known.{Known}
+use Rattle.meaning.specs.Map.{mapFrom}
+use Rattle.meaning.specs.Step.{Step, stepMarks, afterMarks, once}
+use Rattle.meaning.specs.Tree.{Tree, go}
+use Rattle.meaning.proofs.Laws.{marked-ask, marked-family, marked-once, marked-stop}
+use Rattle.numbers.specs.declared.arithmetic.Arithmetic.{Arithmetic}
+use Rattle.processing.specs.declared.sign.Sign.the-variants.{Kept, Cleared}
+use Rattle.processing.specs.Vector.{iterationsOf}
+use Rattle.processing.specs.Operation.{extensionBy}
+use Rattle.processing.specs.Register.{signStep}
+use Rattle.processing.specs.Data.{regD, regN, regM, stepping, dyadicStep, monadicStep, dyadic, monadic, undefinedTree, operationTree}
+use Rattle.processing_marks.specs.Marked.{Marked}
+
+module _ (fpscr : ℕ) (s s′ : List Bool) (k : Known) (t : Bool → Tree) where
+  stepping-marked : (f : Format) (d : ℕ) (each : ℕ → ℕ → Step) → ((thumb : Bool) → t thumb ≡ stepping f d each)
+      → ((r : List Bool) (k : Known) (w : List ℕ) → mapFrom s′ r k w ≡ afterMarks (iterationsOf f (fpscr % 2 ^ 28) d) (each (fpscr % 2 ^ 28)) (mapFrom s r k w))
+      → Marked t fpscr s k s′ k
+  stepping-marked f d each e h thumb q v r w =
+      rw (e thumb)
+      (marked-ask control _ (state (withFpscr q fpscr) v) (mapFrom s r k w) _
+      (marked-family _ (each (fpscr % 2 ^ 28)) (state (withFpscr q fpscr) v) (mapFrom s r k w) _ (h r k w)))
+
+  pub dyadic-marked : (f : Format) (w₀ : ℕ) (kind k₁ : Arithmetic) (d n m : ℕ) → ((thumb : Bool) → t thumb ≡ dyadic f w₀ kind) → k₁ ≡ kind → d ≡ regD f w₀ → n ≡ regN f w₀ → m ≡ regM f w₀
+      → ((r : List Bool) (k : Known) (w : List ℕ) → mapFrom s′ r k w ≡ afterMarks (iterationsOf f (fpscr % 2 ^ 28) d) (dyadicStep f (fpscr % 2 ^ 28) k₁ d n m) (mapFrom s r k w))
+      → Marked t fpscr s k s′ k
+  dyadic-marked f w₀ kind k₁ d n m e k′ d′ n′ m′ h =
+      stepping-marked f (regD f w₀) (λ c. dyadicStep f c kind (regD f w₀) (regN f w₀) (regM f w₀)) e (λ r k w. rw (← k′, ← d′, ← n′, ← m′) (h r k w))
+
+  pub monadic-marked : (f : Format) (w₀ : ℕ) (one : ℕ → ℕ → ℕ → Step) (d m : ℕ) → ((thumb : Bool) → t thumb ≡ monadic f w₀ one) → d ≡ regD f w₀ → m ≡ regM f w₀
+      → ((r : List Bool) (k : Known) (w : List ℕ) → mapFrom s′ r k w ≡ afterMarks (iterationsOf f (fpscr % 2 ^ 28) d) (monadicStep f (fpscr % 2 ^ 28) (one (fpscr % 2 ^ 28)) d m) (mapFrom s r k w))
+      → Marked t fpscr s k s′ k
+  monadic-marked f w₀ one d m e d′ m′ h =
+      stepping-marked f (regD f w₀) (λ c. monadicStep f c (one c) (regD f w₀) (regM f w₀)) e (λ r k w. rw (← d′, ← m′) (h r k w))
+
+  pub once-marked : (k′ : Known) (x : Step) → ((thumb : Bool) → t thumb ≡ go (once x))
+      → ((r : List Bool) (w : List ℕ) → mapFrom s′ r k′ w ≡ stepMarks x (mapFrom s r k w)) → Marked t fpscr s k s′ k′
+  once-marked k′ x e h thumb q v r w = rw (e thumb) (marked-once x (state (withFpscr q fpscr) v) (mapFrom s r k w) _ (h r w))
+
+-- an Undefined word changes no mark
+pub undefined-marked : (fpscr : ℕ) (s : List Bool) (k : Known) (t : Bool → Tree) (w₀ : ℕ) → ((thumb : Bool) → t thumb ≡ undefinedTree thumb w₀) → Marked t fpscr s k s k
+undefined-marked fpscr s k t w₀ e thumb q v r w =
+    rw (e thumb) (marked-ask (core 15) _ (state (withFpscr q fpscr) v) (mapFrom s r k w) _ (marked-stop _ (state (withFpscr q fpscr) v) (mapFrom s r k w)))
+
+-- the same word under another tree that is equal
+pub marked-as : (t u : Bool → Tree) (fpscr : ℕ) (s : List Bool) (k : Known) (s′ : List Bool) (k′ : Known) → ((thumb : Bool) → u thumb ≡ t thumb) → Marked t fpscr s k s′ k′ → Marked u fpscr s k s′ k′
+marked-as t u fpscr s k s′ k′ e h thumb q v r w = rw (e thumb) (h thumb q v r w)
+
+pub sign-either : (f : Format) (w : ℕ) (thumb b : Bool) → operationTree thumb f w (extensionBy 0 b) ≡ monadic f w (λ c. signStep f (cond b Cleared Kept))
+unfolding operationTree extensionBy
+sign-either f w thumb true = refl
+sign-either f w thumb false = refl

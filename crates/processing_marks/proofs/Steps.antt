@@ -1,0 +1,72 @@
+-- The marks that one step leaves, over the precision.
+use Prim.Native.Nat.{ℕ, _+_}
+use mathlib.Core.Path.{_≡_, refl, ap, _∙_}
+use mathlib.Core.Bool.{Bool, true, false, _&&_}
+use mathlib.Core.List.{List, [], _∷_}
+use lib.Ieee.{Format, binary32, binary64}
+use lib.ListN.{getD}
+use Rattle.machine.specs.Registers.{lowIndex, highIndex}
+use Rattle.machine.specs.Place.{Place, sWord}
+use Rattle.meaning.specs.declared.Known.{Known}
+use Rattle.meaning.specs.Map.{Map, mapFrom}
+use Rattle.meaning.specs.Step.{Step, allKnown, stepMarks, afterMarks}
+use Rattle.meaning.proofs.Laws.{marks-one}
+use Rattle.numbers.specs.declared.arithmetic.Arithmetic.{Arithmetic}
+use Rattle.processing.specs.declared.sign.Sign.{Sign}
+use Rattle.processing.specs.Register.{wordsOf, written, signStep}
+use Rattle.processing.specs.Data.{operands, arithmeticStep, rootStep, compareStep, compareZeroStep, widenStep, narrowStep, fromStep, truncateStep, roundStep}
+use Rattle.processing_marks.specs.Marked.{flagged}
+use Rattle.processing_marks.specs.Register.{knownIn, allIn, markIn, copyIn}
+
+pub and-assoc : (a b c : Bool) → ((a && b) && c) ≡ (a && (b && c))
+and-assoc true b c = refl
+and-assoc false b c = refl
+
+module _ (s r : List Bool) (k : Known) (w : List ℕ) where
+  pub all-known : (f : Format) (ns : List ℕ) → allKnown (mapFrom s r k w) (wordsOf f ns) ≡ allIn f s ns
+  all-known f [] = refl
+  all-known binary32 (n ∷ ns) = ap (λ (b : Bool). b && knownIn binary32 s n) (all-known binary32 ns)
+  all-known binary64 (n ∷ ns) =
+      and-assoc (allKnown (mapFrom s r k w) (wordsOf binary64 ns)) (getD s (highIndex n) false) (getD s (lowIndex n) false) ∙ ap (λ (b : Bool). b && knownIn binary64 s n) (all-known binary64 ns)
+
+  pub written-marks : (f : Format) (d : ℕ) (sources : List Place) (value : List ℕ → ℕ)
+      → stepMarks (written f d sources value) (mapFrom s r k w) ≡ mapFrom (markIn f s d (allKnown (mapFrom s r k w) sources)) r k w
+  written-marks binary32 d sources value = refl
+  written-marks binary64 d sources value = refl
+
+  pub sign-marks : (f : Format) (sign : Sign) (d m : ℕ) → stepMarks (signStep f sign d m) (mapFrom s r k w) ≡ mapFrom (copyIn f s d m) r k w
+  sign-marks binary32 sign d m = refl
+  sign-marks binary64 sign d m = refl
+
+  pub arithmetic-marks : (f : Format) (c : ℕ) (kind : Arithmetic) (d n m : ℕ)
+      → stepMarks (arithmeticStep f c kind d n m) (mapFrom s r k w) ≡ mapFrom (markIn f s d (allIn f s (operands kind d n m))) r k w
+  arithmetic-marks f c kind d n m =
+      written-marks f d (wordsOf f (operands kind d n m)) _ ∙ ap (λ (b : Bool). mapFrom (markIn f s d b) r k w) (all-known f (operands kind d n m))
+
+  pub root-marks : (f : Format) (c d m : ℕ) → stepMarks (rootStep f c d m) (mapFrom s r k w) ≡ mapFrom (markIn f s d (knownIn f s m)) r k w
+  root-marks f c d m = written-marks f d (wordsOf f (m ∷ [])) _ ∙ ap (λ (b : Bool). mapFrom (markIn f s d b) r k w) (all-known f (m ∷ []))
+
+  pub compare-marks : (f : Format) (d m : ℕ) → stepMarks (compareStep f d m) (mapFrom s r k w) ≡ mapFrom s r (flagged k (knownIn f s m && knownIn f s d)) w
+  compare-marks f d m = ap (λ (b : Bool). mapFrom s r (flagged k b) w) (all-known f (d ∷ m ∷ []))
+
+  pub compare-zero-marks : (f : Format) (d : ℕ) → stepMarks (compareZeroStep f d) (mapFrom s r k w) ≡ mapFrom s r (flagged k (knownIn f s d)) w
+  compare-zero-marks f d = ap (λ (b : Bool). mapFrom s r (flagged k b) w) (all-known f (d ∷ []))
+
+  pub widen-marks : (d m : ℕ) → stepMarks (widenStep d m) (mapFrom s r k w) ≡ mapFrom (markIn binary64 s d (knownIn binary32 s m)) r k w
+  widen-marks d m = refl
+
+  pub narrow-marks : (d m : ℕ) → stepMarks (narrowStep d m) (mapFrom s r k w) ≡ mapFrom (markIn binary32 s d (knownIn binary64 s m && k .control)) r k w
+  narrow-marks d m = ap (λ (b : Bool). mapFrom (markIn binary32 s d (b && k .control)) r k w) (all-known binary64 (m ∷ []))
+
+  pub from-marks : (f : Format) (sign : Bool) (d m : ℕ) → stepMarks (fromStep f sign d m) (mapFrom s r k w) ≡ mapFrom (markIn f s d (knownIn binary32 s m)) r k w
+  from-marks f sign d m = written-marks f d (sWord m ∷ []) _
+
+  pub truncate-marks : (f : Format) (sign : Bool) (d m : ℕ) → stepMarks (truncateStep f sign d m) (mapFrom s r k w) ≡ mapFrom (markIn binary32 s d (knownIn f s m)) r k w
+  truncate-marks f sign d m = ap (λ (b : Bool). mapFrom (markIn binary32 s d b) r k w) (all-known f (m ∷ []))
+
+  pub round-marks : (f : Format) (sign : Bool) (d m : ℕ) → stepMarks (roundStep f sign d m) (mapFrom s r k w) ≡ mapFrom (markIn binary32 s d (knownIn f s m && k .control)) r k w
+  round-marks f sign d m = ap (λ (b : Bool). mapFrom (markIn binary32 s d (b && k .control)) r k w) (all-known f (m ∷ []))
+
+-- one turn of a loop that leaves the marks of a family of steps
+pub turn : (i : ℕ) (each : ℕ → Step) (one : Step) (μ x y : Map) → y ≡ stepMarks one x → one ≡ each i → x ≡ afterMarks i each μ → y ≡ afterMarks (i + 1) each μ
+turn i each one μ x y d e h = d ∙ ap (λ (z : Step). stepMarks z x) e ∙ marks-one i each μ x h

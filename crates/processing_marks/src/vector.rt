@@ -1,0 +1,77 @@
+// The marks of stepping words, iteration by iteration.
+ghost use mathlib.Core.Path.{_≡_};
+ghost use mathlib.Core.Bool.{Bool};
+ghost use mathlib.Core.List.{List};
+ghost use Prim.Native.Nat.{ℕ, _<_};
+ghost use Rattle.meaning.specs.declared.Known.{Known};
+ghost use Rattle.meaning.specs.Map.{mapFrom};
+ghost use Rattle.meaning.specs.Step.{afterMarks};
+ghost use Rattle.processing.specs.declared.sign.Sign.{Sign};
+ghost use Rattle.processing.specs.Vector.{precision, iterationsOf};
+ghost use Rattle.processing.specs.Register.{signStep};
+ghost use Rattle.processing.specs.Data.{dyadicStep, monadicStep, rootStep};
+use super::register::copy;
+use super::register::known;
+use super::register::mark;
+use super::register::operands_known;
+use numbers::arithmetic::Arithmetic;
+use processing::vector::Vector;
+
+// Arithmetic: the target is known when every word read is.
+pub fn mark_arithmetic(
+    ks: &mut [bool; 32],
+    control: u32,
+    double: bool,
+    kind: Arithmetic,
+    d: usize,
+    n: usize,
+    m: usize,
+)
+    requires { ⌜ (d < 32) × (n < 32) × (m < 32) ⌝ }
+    ensures { λ _. ⌜ ((r : List Bool) (k : Known) (w : List ℕ) → mapFrom (now (ks .exit)) r k w ≡ afterMarks (iterationsOf (precision double) control d) (dyadicStep (precision double) control kind d n m) (mapFrom (now (ks .entry)) r k w)) ⌝ }
+{
+    let vector = Vector::new(control, double, d);
+    let count = vector.iterations;
+    let mut i: usize = 0;
+    while i < count {
+        let dn = vector.step(d, i);
+        let nn = vector.step(n, i);
+        let mn = vector.second(m, i);
+        let all = operands_known(ks, double, kind, dn, nn, mn);
+        mark(ks, double, dn, all);
+        i += 1;
+    }
+}
+
+// Moves and sign changes: the marks are copied.
+pub fn mark_sign(ks: &mut [bool; 32], control: u32, double: bool, d: usize, m: usize)
+    requires { ⌜ (d < 32) × (m < 32) ⌝ }
+    ensures { λ _. ⌜ ((sign : Sign) (r : List Bool) (k : Known) (w : List ℕ) → mapFrom (now (ks .exit)) r k w ≡ afterMarks (iterationsOf (precision double) control d) (monadicStep (precision double) control (signStep (precision double) sign) d m) (mapFrom (now (ks .entry)) r k w)) ⌝ }
+{
+    let vector = Vector::new(control, double, d);
+    let count = vector.iterations;
+    let mut i: usize = 0;
+    while i < count {
+        let dn = vector.step(d, i);
+        let mn = vector.second(m, i);
+        copy(ks, double, dn, mn);
+        i += 1;
+    }
+}
+
+// Roots: the target is known when every word of the operand is.
+pub fn mark_root(ks: &mut [bool; 32], control: u32, double: bool, d: usize, m: usize)
+    requires { ⌜ (d < 32) × (m < 32) ⌝ }
+    ensures { λ _. ⌜ ((r : List Bool) (k : Known) (w : List ℕ) → mapFrom (now (ks .exit)) r k w ≡ afterMarks (iterationsOf (precision double) control d) (monadicStep (precision double) control (rootStep (precision double) control) d m) (mapFrom (now (ks .entry)) r k w)) ⌝ }
+{
+    let vector = Vector::new(control, double, d);
+    let count = vector.iterations;
+    let mut i: usize = 0;
+    while i < count {
+        let dn = vector.step(d, i);
+        let mn = vector.second(m, i);
+        let all = known(ks, double, mn);
+        mark(ks, double, dn, all);
+        i += 1;
+    }
+}
