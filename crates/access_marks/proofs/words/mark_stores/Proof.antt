@@ -1,0 +1,77 @@
+-- `access_marks::words::mark_stores` meets its contract.
+use Prim.Native.Nat.{_≤_, _-_}
+use lib.Ieee.{binary32}
+use lib.ListN.{length}
+use borrow.Author.Needs.{needs}
+use native.Mathlib.Omega.{arith}
+use mathlib.Core.List.{List}
+use mathlib.Core.Bool.{Bool, false}
+use mathlib.Core.Path.{_≡_, refl, _∙_}
+use Rattle.meaning.proofs.Laws.{marks-none, marks-one}
+use Rattle.memory.specs.LoadStore.{accessAt}
+use Rattle.meaning.specs.Step.{afterMarks}
+use Rattle.meaning.specs.declared.Known.{Known}
+use Rattle.meaning.specs.Map.{mapFrom}
+use Rattle.access_marks.proofs.words.mark_stores.Statement.{statement}
+use Rattle.access_marks.proofs.words.mark_stores.Tie as tie
+
+abbrev Inv-loop : tie.InvT-loop
+Inv-loop ks marks₀ base start first count i₀ marks i = (i ≤ count) × (length marks ≡ length marks₀) × ((kr : List Bool) (k : Known) → mapFrom ks kr k marks ≡ afterMarks i (accessAt binary32 false base (first .0) start) (mapFrom ks kr k marks₀))
+
+abbrev μ-loop : tie.MeasureT-loop
+μ-loop ks marks₀ base start first count i₀ marks i = count - i
+
+loop-holds : tie.Need-loop-holds Inv-loop μ-loop
+loop-holds c = (omega arith, refl, λ kr k. marks-none _ _)
+
+cast-t10 : tie.Need-cast-t10 Inv-loop μ-loop
+cast-t10 c = omega arith
+
+add-t11 : tie.Need-add-t11 Inv-loop μ-loop
+add-t11 c = omega arith
+
+single-known-requires : tie.Need-single-known-requires Inv-loop μ-loop
+single-known-requires c κs = search needs
+
+mul-plus : tie.Need-mul-plus Inv-loop μ-loop
+mul-plus c = omega arith
+
+plus-requires : tie.Need-plus-requires Inv-loop μ-loop
+plus-requires c κs = search needs
+
+mark-word-requires : tie.Need-mark-word-requires Inv-loop μ-loop
+mark-word-requires c κs = search needs
+
+add-i : tie.Need-add-i Inv-loop μ-loop
+add-i c = omega arith
+
+loop-less : tie.Need-loop-less Inv-loop μ-loop
+loop-less c = omega arith
+
+loop-again : tie.Need-loop-again Inv-loop μ-loop
+loop-again c = (omega arith, c .before .before .mark-word .kept .0 ∙ c .before .before .before .before .before .before .before .before .loop .inv .1, λ kr k. rw (c .before .before .mark-word .ensures, c .before .before .before .before .before .single-known .ensures, c .before .before .before .plus .ensures) (marks-one _ _ _ _ (c .before .before .before .before .before .before .before .before .loop .inv .2 kr k)))
+
+same-length : tie.Need-same-length Inv-loop μ-loop
+same-length c = search needs
+
+returns : tie.Need-returns Inv-loop μ-loop
+returns c = λ kr k. let e : c .before .before .before .args .count ≡ c .before .loop .i = omega arith in rw e (c .before .loop .inv .2 kr k)
+
+pub mark-stores-spec : {M : Type 1} → statement M
+mark-stores-spec =
+    tie.close
+    (tie.spec
+    Inv-loop
+    μ-loop
+    loop-holds
+    cast-t10
+    add-t11
+    single-known-requires
+    mul-plus
+    plus-requires
+    mark-word-requires
+    add-i
+    loop-less
+    loop-again
+    same-length
+    returns)
