@@ -1,0 +1,3 @@
+-- The law of the calls over a lent machine.
+
+pub mod Lent

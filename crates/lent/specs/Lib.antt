@@ -1,0 +1,2 @@
+-- What the calls over a lent machine promise.
+pub mod Reply
