@@ -1,4 +1,4 @@
 -- Laws of the crate's proofs.
 
 pub mod Words
-mod Replies
+pub mod Replies

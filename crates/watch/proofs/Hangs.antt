@@ -1,0 +1,158 @@
+-- Which place a word hangs on, by the tests that the code makes.
+use Prim.Native.Nat.{ℕ, _+_}
+use mathlib.Core.Path.{_≡_, refl}
+use mathlib.Core.Bool.{Bool, true, false, cond}
+use lib.Dec.{eqb}
+use lib.Ieee.{Format, binary32, binary64}
+use borrow.Author.Tests.{ne-eqb}
+use Rattle.bits.specs.Field.{field, bitOf}
+use Rattle.bits.specs.Psr.{holds}
+use Rattle.bits.proofs.Flags.{psr-nzcv}
+use Rattle.machine.specs.Place.{State, core, control, nzcv}
+use Rattle.meaning.specs.Map.{Map, known}
+use Rattle.meaning.specs.Step.{Step, nothing}
+use Rattle.meaning.specs.Tree.{Tree, go}
+use Rattle.meaning.specs.Hang.{Hang, clear, at, pickHang, hangOf}
+use Rattle.meaning.proofs.Laws.{hang-known, hang-here, clear-go}
+use Rattle.processing.specs.Operation.{extensionBy}
+use Rattle.processing.specs.Data.{stepping, undefinedTree, operationTree, extensionTree}
+use Rattle.memory.specs.LoadStore.{accessTree, loadStoreTree}
+use Rattle.run.specs.Word.{conditioned}
+use Rattle.transfers.specs.Transfer.{systemTree, singleTree, transferTree}
+
+pub steps : (f : Format) (d : ℕ) (each : ℕ → ℕ → Step) (st : State) (μ : Map) → pickHang (known μ control) clear (at 49) ≡ hangOf (stepping f d each) st μ
+unfolding hangOf
+steps f d each st μ = refl
+
+pub undefined : (thumb : Bool) (w : ℕ) (st : State) (μ : Map) → pickHang (known μ (core 15)) clear (at 47) ≡ hangOf (undefinedTree thumb w) st μ
+unfolding hangOf
+undefined thumb w st μ = refl
+
+-- ---- the extension group, by bits 19:16
+
+module _ (f : Format) (w k : ℕ) (p : k ≡ field w 16 19) (st : State) (μ : Map) where
+  at-bit : (n : ℕ) → k ≡ n → (h : Hang) → ((b : Bool) → h ≡ hangOf (operationTree false f w (extensionBy n b)) st μ) → h ≡ hangOf (extensionTree f w false) st μ
+  at-bit n e h g = rw (← p, e) (g (bitOf w 7))
+
+  pub sign-steps : k ≡ 0 → pickHang (known μ control) clear (at 49) ≡ hangOf (extensionTree f w false) st μ
+  unfolding hangOf operationTree extensionBy
+  sign-steps e = at-bit 0 e _ by
+    where
+      by : (b : Bool) → pickHang (known μ control) clear (at 49) ≡ hangOf (operationTree false f w (extensionBy 0 b)) st μ
+      by true = refl
+      by false = refl
+
+  pub root-steps : k ≡ 1 → pickHang (known μ control) clear (at 49) ≡ hangOf (extensionTree f w false) st μ
+  unfolding hangOf operationTree extensionBy
+  root-steps e = at-bit 1 e _ by
+    where
+      by : (b : Bool) → pickHang (known μ control) clear (at 49) ≡ hangOf (operationTree false f w (extensionBy 1 b)) st μ
+      by true = refl
+      by false = refl
+
+  -- the numbers of what neither steps nor is Undefined
+  pub clear-four : k ≡ 4 → clear ≡ hangOf (extensionTree f w false) st μ
+  unfolding hangOf operationTree extensionBy
+  clear-four e = at-bit 4 e clear by
+    where
+      by : (b : Bool) → clear ≡ hangOf (operationTree false f w (extensionBy 4 b)) st μ
+      by true = refl
+      by false = refl
+
+  pub clear-five : k ≡ 5 → clear ≡ hangOf (extensionTree f w false) st μ
+  unfolding hangOf operationTree extensionBy
+  clear-five e = at-bit 5 e clear by
+    where
+      by : (b : Bool) → clear ≡ hangOf (operationTree false f w (extensionBy 5 b)) st μ
+      by true = refl
+      by false = refl
+
+  pub clear-eight : k ≡ 8 → clear ≡ hangOf (extensionTree f w false) st μ
+  unfolding hangOf operationTree extensionBy
+  clear-eight e = at-bit 8 e clear by
+    where
+      by : (b : Bool) → clear ≡ hangOf (operationTree false f w (extensionBy 8 b)) st μ
+      by true = refl
+      by false = refl
+
+  pub clear-twelve : k ≡ 12 → clear ≡ hangOf (extensionTree f w false) st μ
+  unfolding hangOf operationTree extensionBy
+  clear-twelve e = at-bit 12 e clear by
+    where
+      by : (b : Bool) → clear ≡ hangOf (operationTree false f w (extensionBy 12 b)) st μ
+      by true = refl
+      by false = refl
+
+  pub clear-thirteen : k ≡ 13 → clear ≡ hangOf (extensionTree f w false) st μ
+  unfolding hangOf operationTree extensionBy
+  clear-thirteen e = at-bit 13 e clear by
+    where
+      by : (b : Bool) → clear ≡ hangOf (operationTree false f w (extensionBy 13 b)) st μ
+      by true = refl
+      by false = refl
+
+  pub convert-clear : k ≡ 7 → (b : Bool) → b ≡ bitOf w 7 → b ≡ true → clear ≡ hangOf (extensionTree f w false) st μ
+  unfolding hangOf operationTree extensionBy
+  convert-clear e b q r = rw (← p, e, ← q, r)
+
+  pub convert-none : k ≡ 7 → (b : Bool) → b ≡ bitOf w 7 → b ≡ false → pickHang (known μ (core 15)) clear (at 47) ≡ hangOf (extensionTree f w false) st μ
+  unfolding hangOf operationTree extensionBy
+  convert-none e b q r = rw (← p, e, ← q, r)
+
+-- ---- loads and stores
+
+module _ (f : Format) (base w : ℕ) (st : State) (μ : Map) where
+  pub pair-clear : (k : ℕ) → k ≡ field w 21 27 → k ≡ 0b110_0010 → clear ≡ hangOf (accessTree f base w) st μ
+  unfolding hangOf accessTree
+  pair-clear k p e = rw (← p, e)
+
+  pub base-asked : (k : ℕ) → k ≡ field w 21 27 → (k ≡ 0b110_0010 → ⊥) → (n : ℕ) → n ≡ field w 16 19 → pickHang (known μ (core n)) clear (at (32 + n)) ≡ hangOf (accessTree f base w) st μ
+  unfolding hangOf accessTree
+  base-asked k p e n q = rw (← p, ne-eqb _ _ e, ← q)
+
+module _ (base w k : ℕ) (p : k ≡ field w 8 11) where
+  pub access-single : k ≡ 10 → loadStoreTree base w ≡ accessTree binary32 base w
+  unfolding loadStoreTree
+  access-single e = rw (← p, e)
+
+  pub access-double : k ≡ 11 → loadStoreTree base w ≡ accessTree binary64 base w
+  unfolding loadStoreTree
+  access-double e = rw (← p, e)
+
+  pub access-none : (k ≡ 10 → ⊥) → (k ≡ 11 → ⊥) → loadStoreTree base w ≡ go nothing
+  unfolding loadStoreTree
+  access-none a b = rw (← p, ne-eqb _ _ a, ne-eqb _ _ b)
+
+-- ---- the condition
+
+pub always : (k : ℕ) (t : Tree) → k ≡ 14 → conditioned k t ≡ t
+unfolding conditioned
+always k t e = rw e
+
+module _ (k : ℕ) (t : Tree) (st : State) (μ : Map) (n : k ≡ 14 → ⊥) where
+  pub flags-unknown : known μ nzcv ≡ false → at 51 ≡ hangOf (conditioned k t) st μ
+  unfolding conditioned
+  flags-unknown e = rw (ne-eqb _ _ n) (hang-here nzcv _ st μ e)
+
+  asked-flags : (h : Hang) → known μ nzcv ≡ true → h ≡ hangOf (cond (holds k (st .machine .cpsr)) t (go nothing)) st μ → h ≡ hangOf (conditioned k t) st μ
+  unfolding conditioned
+  asked-flags h e g = rw (ne-eqb _ _ n) (hang-known nzcv _ st μ h e (rw (psr-nzcv (st .machine .cpsr)) g))
+
+  pub holding : (h : Hang) → known μ nzcv ≡ true → holds k (st .machine .cpsr) ≡ true → h ≡ hangOf t st μ → h ≡ hangOf (conditioned k t) st μ
+  holding h e g i = asked-flags h e (rw g i)
+
+  pub failing : known μ nzcv ≡ true → holds k (st .machine .cpsr) ≡ false → clear ≡ hangOf (conditioned k t) st μ
+  failing e g = asked-flags clear e (rw g (clear-go nothing st μ))
+
+-- ---- a transfer asks for nothing
+
+either : (b : Bool) (x y : Tree) (st : State) (μ : Map) → clear ≡ hangOf x st μ → clear ≡ hangOf y st μ → clear ≡ hangOf (cond b x y) st μ
+either true x y st μ p q = p
+either false x y st μ p q = q
+
+pub transfers-clear : (thumb : Bool) (w : ℕ) (st : State) (μ : Map) → clear ≡ hangOf (transferTree thumb w) st μ
+unfolding transferTree hangOf
+transfers-clear thumb w st μ =
+    either (eqb (field w 21 23) 7) (systemTree w) _ st μ
+    (either (bitOf w 20) _ _ st μ (either (eqb (field w 12 15) 15) _ _ st μ refl refl) refl)
+    (either (eqb (field w 21 23) 0) (singleTree thumb w) _ st μ (either (bitOf w 20) _ _ st μ (either (eqb (field w 12 15) 15) _ _ st μ refl refl) refl) refl)

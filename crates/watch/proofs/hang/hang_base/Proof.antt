@@ -1,0 +1,45 @@
+-- `watch::hang::hang_base` meets its contract.
+use mathlib.Core.Path.{_∙_}
+use denote.Ref.{now}
+use borrow.Author.Needs.{needs}
+use Rattle.watch.proofs.Hangs.{pair-clear, base-asked}
+use Rattle.meaning.specs.Map.{mapFrom}
+use Rattle.watch.proofs.hang.hang_base.Statement.{statement}
+use Rattle.watch.proofs.hang.hang_base.Tie as tie
+
+bits-requires : tie.Need-bits-requires
+bits-requires c κs = search needs
+
+returns : tie.Need-returns
+returns c = λ f k b st s w. pair-clear f b (c .before .before .args .op) st (mapFrom s (now (c .before .before .args .kr)) k w) _ (c .before .bits .ensures) (c .if1 .taken)
+
+bits-requires-2 : tie.Need-bits-requires-2
+bits-requires-2 c κs = search needs
+
+cast-rn : tie.Need-cast-rn
+cast-rn c = search needs
+
+element-copy-out-asked : tie.Need-element-copy-out-asked
+element-copy-out-asked c = search needs
+
+add-asked : tie.Need-add-asked
+add-asked c = search needs
+
+asked-requires : tie.Need-asked-requires
+asked-requires c κs = search needs
+
+returns-2 : tie.Need-returns-2
+returns-2 c = λ f k b st s w. c .asked .ensures ∙ base-asked f b (c .before .before .before .before .before .args .op) st (mapFrom s (now (c .before .before .before .before .before .args .kr)) k w) _ (c .before .before .before .before .bits .ensures) (c .before .before .before .if1 .left) _ (c .before .before .bits2 .ensures)
+
+pub hang-base-spec : {M : Type 1} → statement M
+hang-base-spec =
+    tie.close
+    (tie.spec
+    bits-requires
+    returns
+    bits-requires-2
+    cast-rn
+    element-copy-out-asked
+    add-asked
+    asked-requires
+    returns-2)

@@ -1,0 +1,87 @@
+-- `watch::hang::hang_extension` meets its contract.
+use mathlib.Core.Bool.{false}
+use mathlib.Core.Path.{_∙_}
+use denote.Ref.{now}
+use borrow.Author.Needs.{needs}
+use Rattle.processing.proofs.Done.{extension-none}
+use Rattle.watch.proofs.Hangs.{convert-clear, convert-none, sign-steps, root-steps, clear-four, clear-five, clear-eight, clear-twelve, clear-thirteen, undefined}
+use Rattle.meaning.specs.Map.{mapFrom}
+use Rattle.watch.proofs.hang.hang_extension.Statement.{statement}
+use Rattle.watch.proofs.hang.hang_extension.Tie as tie
+
+bits-requires : tie.Need-bits-requires
+bits-requires c κs = search needs
+
+asked-requires : tie.Need-asked-requires
+asked-requires c κs = search needs
+
+asked-requires-2 : tie.Need-asked-requires-2
+asked-requires-2 c κs = search needs
+
+bit-requires : tie.Need-bit-requires
+bit-requires c κs = search needs
+
+returns : tie.Need-returns
+returns c = λ f st s w. convert-clear f (c .before .before .before .before .args .op) _ (c .before .before .before .bits .ensures) st (mapFrom s (now (c .before .before .before .before .args .kr)) (c .before .before .before .before .args .k) w) (c .before .before .match .keys5) _ (c .before .bit .ensures) (c .if1 .taken)
+
+element-copy-out-asked : tie.Need-element-copy-out-asked
+element-copy-out-asked c = search needs
+
+asked-requires-3 : tie.Need-asked-requires-3
+asked-requires-3 c κs = search needs
+
+element-copy-out-asked-2 : tie.Need-element-copy-out-asked-2
+element-copy-out-asked-2 c = search needs
+
+asked-requires-4 : tie.Need-asked-requires-4
+asked-requires-4 c κs = search needs
+
+returns-2 : tie.Need-returns-2
+returns-2 c = λ f st s w. c .asked .ensures ∙ sign-steps f (c .before .before .before .args .op) _ (c .before .before .bits .ensures) st (mapFrom s (now (c .before .before .before .args .kr)) (c .before .before .before .args .k) w) (c .before .match .keys1)
+
+returns-3 : tie.Need-returns-3
+returns-3 c = λ f st s w. c .asked2 .ensures ∙ root-steps f (c .before .before .before .args .op) _ (c .before .before .bits .ensures) st (mapFrom s (now (c .before .before .before .args .kr)) (c .before .before .before .args .k) w) (c .before .match .keys2)
+
+returns-4 : tie.Need-returns-4
+returns-4 c = λ f st s w. clear-four f (c .before .before .args .op) _ (c .before .bits .ensures) st (mapFrom s (now (c .before .before .args .kr)) (c .before .before .args .k) w) (c .match .keys3)
+
+returns-5 : tie.Need-returns-5
+returns-5 c = λ f st s w. clear-five f (c .before .before .args .op) _ (c .before .bits .ensures) st (mapFrom s (now (c .before .before .args .kr)) (c .before .before .args .k) w) (c .match .keys4)
+
+returns-6 : tie.Need-returns-6
+returns-6 c = λ f st s w. c .asked3 .ensures ∙ convert-none f (c .before .before .before .before .before .before .args .op) _ (c .before .before .before .before .before .bits .ensures) st (mapFrom s (now (c .before .before .before .before .before .before .args .kr)) (c .before .before .before .before .before .before .args .k) w) (c .before .before .before .before .match .keys5) _ (c .before .before .before .bit .ensures) (c .before .before .if1 .left)
+
+returns-7 : tie.Need-returns-7
+returns-7 c = λ f st s w. clear-eight f (c .before .before .args .op) _ (c .before .bits .ensures) st (mapFrom s (now (c .before .before .args .kr)) (c .before .before .args .k) w) (c .match .keys6)
+
+returns-8 : tie.Need-returns-8
+returns-8 c = λ f st s w. clear-twelve f (c .before .before .args .op) _ (c .before .bits .ensures) st (mapFrom s (now (c .before .before .args .kr)) (c .before .before .args .k) w) (c .match .keys7)
+
+returns-9 : tie.Need-returns-9
+returns-9 c = λ f st s w. clear-thirteen f (c .before .before .args .op) _ (c .before .bits .ensures) st (mapFrom s (now (c .before .before .args .kr)) (c .before .before .args .k) w) (c .match .keys8)
+
+returns-10 : tie.Need-returns-10
+returns-10 c = λ f st s w. rw (extension-none f (c .before .before .before .before .args .op) false (c .before .before .before .bits .result) (c .before .before .before .bits .ensures) (c .before .before .match .rest .0 .0 .0 .0 .0 .0 .0 .1) (c .before .before .match .rest .0 .0 .0 .0 .0 .0 .1) (c .before .before .match .rest .0 .0 .0 .0 .0 .1) (c .before .before .match .rest .0 .0 .0 .0 .1) (c .before .before .match .rest .0 .0 .0 .1) (c .before .before .match .rest .0 .0 .1) (c .before .before .match .rest .0 .1) (c .before .before .match .rest .1)) (c .asked4 .ensures ∙ undefined false (c .before .before .before .before .args .op) st (mapFrom s (now (c .before .before .before .before .args .kr)) (c .before .before .before .before .args .k) w))
+
+pub hang-extension-spec : {M : Type 1} → statement M
+hang-extension-spec =
+    tie.close
+    (tie.spec
+    bits-requires
+    asked-requires
+    asked-requires-2
+    bit-requires
+    returns
+    element-copy-out-asked
+    asked-requires-3
+    element-copy-out-asked-2
+    asked-requires-4
+    returns-2
+    returns-3
+    returns-4
+    returns-5
+    returns-6
+    returns-7
+    returns-8
+    returns-9
+    returns-10)

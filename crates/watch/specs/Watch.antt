@@ -1,0 +1,52 @@
+-- What a watched run answers, and what it should.
+use Prim.Native.Nat.{ℕ}
+use mathlib.Core.Bool.{Bool, true, false}
+use mathlib.Core.List.{List}
+use lib.Dec.{eqb}
+use lib.ListN.{length}
+use Rattle.machine.specs.Place.{State, state}
+use Rattle.meaning.specs.Map.{Map, mapOf}
+use Rattle.meaning.specs.Stop.{Report, report, refused}
+use Rattle.meaning.specs.Run as R
+use Rattle.meaning.specs.Hang as H
+use Rattle.run.specs.Word.{meaning}
+use Rattle.run.specs.Run.{stopOf}
+use Rattle.watch.specs.declared.Watched.{Watched}
+use Rattle.watch.specs.declared.hang.Hang.{Hang}
+use Rattle.watch.specs.declared.hang.Hang.the-variants.{Clear, At}
+use Rattle.watch.specs.Limit.{watchLimit}
+
+-- the code's hang
+abbrev pub hangIs : Hang → H.Hang
+hangIs Clear = H.clear
+hangIs (At p) = H.at p
+
+-- a report and a count, with the machine, the window and the map that are left
+pub record Reply : Type 0 where
+  pub says : Report
+  pub count : ℕ
+  pub leaves : State
+  pub map : Map
+
+-- the code's answer, with the window and its marks as the run leaves them
+abbrev pub answered : Watched → List ℕ → List ℕ → Reply
+answered a window marks =
+    record { says = report (stopOf (a .stop)); count = a .count; leaves = state (a .machine) window; map = mapOf (a .marks) marks }
+
+-- what a watched run that has ended gives
+abbrev pub reply : R.Watched → Reply
+reply e = record { says = report (e .stop); count = e .count; leaves = e .st; map = e .map }
+
+abbrev pub pickReply : Bool → Reply → Reply → Reply
+pickReply true a b = a
+pickReply false a b = b
+
+-- the first refusal that applies to a watched run, or 0: then it is within the limits
+abbrev pub limitOf : ℕ → List ℕ → State → Map → ℕ
+limitOf base list st μ = watchLimit (length list) base (length (st .window)) (st .machine .thumb) (μ .words)
+
+-- the watched run of a list: refused outside the limits, with zero words run and everything as it came
+unfoldable pub watchReply : ℕ → List ℕ → State → Map → Reply
+watchReply base list st μ =
+    let n = limitOf base list st μ in
+    pickReply (eqb n 0) (reply (R.watch (meaning base) list 0 st μ)) (record { says = report (refused n); count = 0; leaves = st; map = μ })

@@ -1,0 +1,146 @@
+// The place that a word hangs on, in document 01's order: the condition, Undefined, a stepping word, a load or store.
+ghost use mathlib.Core.Path.{_≡_};
+ghost use mathlib.Core.Bool.{Bool, true, false};
+ghost use mathlib.Core.List.{List};
+ghost use Prim.Native.Nat.{ℕ};
+ghost use Rattle.machine.specs.declared.Controls.{Controls};
+ghost use Rattle.machine.specs.Machine.{assembled};
+ghost use Rattle.machine.specs.Place.{State, state};
+ghost use Rattle.meaning.specs.Map.{mapFrom};
+ghost use Rattle.meaning.specs.Hang.{clear, at, pickHang, hangOf};
+ghost use lib.Ieee.{Format};
+ghost use Rattle.processing.specs.Data.{dataTree, wordTree, extensionTree};
+ghost use Rattle.memory.specs.LoadStore.{accessTree, loadStoreTree};
+ghost use Rattle.run.specs.Word.{classTree, meaning};
+ghost use Rattle.watch.specs.Watch.{hangIs};
+use bits::field::bit;
+use bits::field::bits;
+use bits::psr::Psr;
+use bits::psr::check_condition;
+ghost use Rattle.meaning.specs.declared.Known.{Known};
+use meaning::Known;
+use processing::fields::kind;
+use run::word::foreign;
+
+pub enum Hang {
+    Clear,
+    At(usize),
+}
+
+// A place that is asked for.
+fn asked(known: bool, place: usize) -> Hang
+    ensures { λ h. ⌜ hangIs h ≡ pickHang known clear (at place) ⌝ }
+{
+    if known {
+        return Hang::Clear;
+    }
+    Hang::At(place)
+}
+
+pub fn hang_of(kr: &[bool; 16], k: Known, flags: Psr, op: u32) -> Hang
+    ensures { λ h. ⌜ ((base : ℕ) (st : State) (s : List Bool) (w : List ℕ) → st .machine .cpsr ≡ flags → hangIs h ≡ hangOf (meaning base op) st (mapFrom s (now (kr .entry)) k w)) ⌝ }
+{
+    if foreign(op) {
+        return Hang::Clear;
+    }
+    let condition = bits(op, 28, 31);
+    if condition == 14 {
+        return hang_class(kr, k, op);
+    }
+    if !k.nzcv {
+        return Hang::At(51);
+    }
+    if check_condition(condition, flags) {
+        return hang_class(kr, k, op);
+    }
+    Hang::Clear
+}
+
+// A word whose condition holds, by its class.
+fn hang_class(kr: &[bool; 16], k: Known, op: u32) -> Hang
+    ensures { λ h. ⌜ ((base : ℕ) (st : State) (s : List Bool) (w : List ℕ) → hangIs h ≡ hangOf (classTree base op) st (mapFrom s (now (kr .entry)) k w)) ⌝ }
+{
+    if bits(op, 25, 27) == 0b110 {
+        return hang_access(kr, op);
+    }
+    if bit(op, 4) {
+        return Hang::Clear;
+    }
+    hang_data(kr, k, op)
+}
+
+// A load or store hangs on its base register; a pair has none.
+fn hang_access(kr: &[bool; 16], op: u32) -> Hang
+    ensures { λ h. ⌜ ((k : Known) (base : ℕ) (st : State) (s : List Bool) (w : List ℕ) → hangIs h ≡ hangOf (loadStoreTree base op) st (mapFrom s (now (kr .entry)) k w)) ⌝ }
+{
+    let coproc = bits(op, 8, 11);
+    if coproc == 10 {
+        return hang_base(kr, op);
+    }
+    if coproc == 11 {
+        return hang_base(kr, op);
+    }
+    Hang::Clear
+}
+
+// In either precision.
+fn hang_base(kr: &[bool; 16], op: u32) -> Hang
+    ensures { λ h. ⌜ ((f : Format) (k : Known) (base : ℕ) (st : State) (s : List Bool) (w : List ℕ) → hangIs h ≡ hangOf (accessTree f base op) st (mapFrom s (now (kr .entry)) k w)) ⌝ }
+{
+    if bits(op, 21, 27) == 0b110_0010 {
+        return Hang::Clear;
+    }
+    let rn = bits(op, 16, 19) as usize;
+    asked(kr[rn], 32 + rn)
+}
+
+// Data processing, by the coprocessor: any but 10 and 11 is Undefined.
+fn hang_data(kr: &[bool; 16], k: Known, op: u32) -> Hang
+    ensures { λ h. ⌜ ((st : State) (s : List Bool) (w : List ℕ) → hangIs h ≡ hangOf (dataTree false op) st (mapFrom s (now (kr .entry)) k w)) ⌝ }
+{
+    let coproc = bits(op, 8, 11);
+    if coproc == 10 {
+        return hang_word(kr, k, op);
+    }
+    if coproc == 11 {
+        return hang_word(kr, k, op);
+    }
+    asked(kr[15], 47)
+}
+
+// An Undefined word hangs on r15 and a stepping word on FPSCR 27:0, in either precision.
+fn hang_word(kr: &[bool; 16], k: Known, op: u32) -> Hang
+    ensures { λ h. ⌜ ((f : Format) (st : State) (s : List Bool) (w : List ℕ) → hangIs h ≡ hangOf (wordTree f op false) st (mapFrom s (now (kr .entry)) k w)) ⌝ }
+{
+    let number = kind(op);
+    if number < 9 {
+        return asked(k.control, 49);
+    }
+    if number == 15 {
+        return hang_extension(kr, k, op);
+    }
+    asked(kr[15], 47)
+}
+
+// Of the extension group moves, VABS, VNEG and VSQRT step.
+fn hang_extension(kr: &[bool; 16], k: Known, op: u32) -> Hang
+    ensures { λ h. ⌜ ((f : Format) (st : State) (s : List Bool) (w : List ℕ) → hangIs h ≡ hangOf (extensionTree f op false) st (mapFrom s (now (kr .entry)) k w)) ⌝ }
+{
+    let opc2 = bits(op, 16, 19);
+    match opc2 {
+        0b0000 => asked(k.control, 49),
+        0b0001 => asked(k.control, 49),
+        0b0100 => Hang::Clear,
+        0b0101 => Hang::Clear,
+        0b0111 => {
+            if bit(op, 7) {
+                return Hang::Clear;
+            }
+            asked(kr[15], 47)
+        }
+        0b1000 => Hang::Clear,
+        0b1100 => Hang::Clear,
+        0b1101 => Hang::Clear,
+        _ => asked(kr[15], 47),
+    }
+}

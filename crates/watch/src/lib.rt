@@ -1,0 +1,150 @@
+// The watched run: the plain run with a map, which stops where the outcome would hang on an unknown place.
+pub mod hang;
+pub mod limit;
+pub mod word;
+
+ghost use mathlib.Core.Path.{_≡_};
+ghost use mathlib.Core.Bool.{false};
+ghost use Rattle.machine.specs.Place.{state};
+ghost use Rattle.machine.specs.Machine.{assembled};
+ghost use Rattle.meaning.specs.Map.{mapOf, marksFrom, knownOf};
+ghost use Rattle.meaning.specs.Run as R;
+ghost use Rattle.run.specs.Word.{meaning};
+ghost use Rattle.watch.specs.Watch.{answered, reply};
+ghost use Rattle.watch.specs.Demand.{Promise};
+use hang::Hang;
+use hang::hang_of;
+use limit::watch_limit;
+use machine::Machine;
+use meaning::Known;
+use meaning::Marks;
+use run::Next;
+use run::Stop;
+use run::progress::Progress;
+use run::word::advance;
+use run::word::execute;
+use word::mark_word;
+
+// The stop, how many words were counted, and the machine and the marks handed back.
+pub struct Watched {
+    pub stop: Stop,
+    pub count: usize,
+    pub machine: Machine,
+    pub marks: Marks,
+}
+
+// Runs a list of words over a window from a base on, with the marks of the places before the window by value and the window's lent.
+pub fn watch(
+    machine: Machine,
+    marks: Marks,
+    window: &mut [u32],
+    window_marks: &mut [u8],
+    base: u32,
+    list: &[u32],
+) -> Watched
+    ensures { λ a. ⌜ Promise base (now (list .entry)) (state machine (now (window .entry))) (mapOf marks (now («window_marks» .entry))) (answered a (now (window .exit)) (now («window_marks» .exit))) ⌝ }
+{
+    let limit = watch_limit(list.len(), base, window.len(), machine.thumb, window_marks);
+    if limit != 0 {
+        return Watched {
+            stop: Stop::Refused(limit),
+            count: 0,
+            machine,
+            marks,
+        };
+    }
+    watch_words(machine, marks, window, window_marks, base, list)
+}
+
+// The watched run within the limits. Registers and marks are locals that are lent to each word.
+fn watch_words(
+    machine: Machine,
+    marks: Marks,
+    window: &mut [u32],
+    window_marks: &mut [u8],
+    base: u32,
+    list: &[u32],
+) -> Watched
+    requires { ⌜ machine .thumb ≡ false ⌝ }
+    ensures { λ a. ⌜ answered a (now (window .exit)) (now («window_marks» .exit)) ≡ reply (R.watch (meaning base) (now (list .entry)) 0 (state machine (now (window .entry))) (mapOf marks (now («window_marks» .entry)))) ⌝ }
+{
+    let begun = Progress::new(machine);
+    let mut s = begun.s;
+    let mut r = begun.r;
+    let mut x = begun.controls;
+    let mut ks = marks.s;
+    let mut kr = marks.r;
+    let mut k = known_of(marks);
+    let mut i: usize = 0;
+    while i < list.len() {
+        let op = list[i];
+        let flags = x.cpsr;
+        let hang = hang_of(&kr, k, flags, op);
+        match hang {
+            Hang::At(place) => {
+                let left = Progress { s, r, controls: x };
+                return ended(left, ks, kr, k, Stop::Hangs(place), i);
+            }
+            Hang::Clear => {}
+        }
+        k = mark_word(&mut ks, &mut kr, k, window_marks, &r, x, base, op);
+        let done = execute(&mut s, &mut r, x, window, base, op);
+        x = done.controls;
+        let next = done.next;
+        match next {
+            Next::On => {
+                advance(&mut r);
+                i += 1;
+            }
+            Next::Last => {
+                let left = Progress { s, r, controls: x };
+                return ended(left, ks, kr, k, Stop::Branched, i + 1);
+            }
+            Next::Halt(stop) => {
+                let left = Progress { s, r, controls: x };
+                return ended(left, ks, kr, k, stop, i);
+            }
+        }
+    }
+    let left = Progress { s, r, controls: x };
+    ended(left, ks, kr, k, Stop::Finished, i)
+}
+
+// The marks that are no array.
+fn known_of(marks: Marks) -> Known
+    ensures { λ k. ⌜ k ≡ knownOf marks ⌝ }
+{
+    Known {
+        flags: marks.flags,
+        control: marks.control,
+        exc: marks.exc,
+        nzcv: marks.nzcv,
+    }
+}
+
+// Hands the machine and the marks back with the stop and the count.
+fn ended(
+    left: Progress,
+    ks: [bool; 32],
+    kr: [bool; 16],
+    k: Known,
+    stop: Stop,
+    count: usize,
+) -> Watched
+    ensures { λ a. ⌜ (a .stop ≡ stop) × (a .count ≡ count) × (a .machine ≡ assembled (left .s) (left .r) (left .controls) false) × (a .marks ≡ marksFrom ks kr k) ⌝ }
+{
+    let machine = left.machine();
+    Watched {
+        stop,
+        count,
+        machine,
+        marks: Marks {
+            s: ks,
+            r: kr,
+            flags: k.flags,
+            control: k.control,
+            exc: k.exc,
+            nzcv: k.nzcv,
+        },
+    }
+}
