@@ -1,9 +1,10 @@
 -- What an exported function leaves: its result, and each lent buffer.
-use Prim.Native.Nat.{ℕ}
-use mathlib.Core.Bool.{Bool, true, false, _&&_}
+use Prim.Native.Nat.{ℕ, _/_, _%_, _^_}
+use mathlib.Core.Bool.{Bool, true, false, cond, _&&_}
 use mathlib.Core.List.{List, [], _∷_}
 use lib.Dec.{eqb, ltb}
 use lib.ListN.{length}
+use Rattle.bits.specs.Psr.{oneOf, psrOf, holds}
 use Rattle.machine.specs.Machine.{newMachine}
 use Rattle.machine.specs.Place.{State, state}
 use Rattle.meaning.specs.Stop.{Report}
@@ -46,3 +47,7 @@ called y l w thumb a = pickLeft (usable l thumb (length a)) (told 0 (y (state (s
 -- what is left of a state that is to become new: its result is 0, or 255 where it has not 52 words
 abbrev pub renewed : List ℕ → Left
 renewed l = pickLeft (eqb (length l) 52) (left 0 (spelling newMachine) [] []) (left useless l [] [])
+
+-- whether a condition holds on flags in bits 31:28, as a number; other bits there have to be 0
+abbrev pub checked : ℕ → ℕ → ℕ
+checked condition nzcv = cond (eqb (nzcv % 2 ^ 28) 0) (oneOf (holds (condition % 16) (psrOf (nzcv / 2 ^ 28)))) useless

@@ -9,7 +9,7 @@ ghost use Rattle.processing.specs.Data.{dataTree};
 ghost use Rattle.transfers.specs.Transfer.{transferTree};
 ghost use Rattle.vfp.specs.Call.{exitReport, reply, loadStoreReply};
 ghost use Rattle.fpu.specs.Spelling.{spelling, spelled, spells, Spells};
-ghost use Rattle.fpu.specs.Left.{left, called, usable, answerOf, renewed};
+ghost use Rattle.fpu.specs.Left.{left, called, usable, answerOf, renewed, checked};
 use bits::psr::Psr;
 use machine::Machine;
 use vfp::Exit;
@@ -187,4 +187,18 @@ pub extern "C" fn fpu_coprocessor_load_store(
     let exit = done.exit;
     pack(done.machine, state);
     tell(exit, answer)
+}
+
+// Whether an instruction of a condition, in its low four bits, is executed under the flags of place 51.
+#[no_mangle]
+pub extern "C" fn fpu_check_condition(condition: u32, nzcv: u32) -> u32
+    ensures { λ r. ⌜ r ≡ checked condition nzcv ⌝ }
+{
+    if nzcv % 0x1000_0000 != 0 {
+        return USELESS;
+    }
+    if bits::psr::check_condition(condition, Psr::from_bits(nzcv)) {
+        return 1;
+    }
+    0
 }

@@ -1,6 +1,9 @@
 //! The Rust's calls over the states of the C interface: 52 words and a window.
 
-use zakuro_cpu::{arm, check_condition, vfp, Bus, Cpu, Exit, Psr};
+pub mod cases;
+
+use zakuro_cpu::{arm, check_condition, vfp, Bus, Exit, Psr};
+pub use zakuro_cpu::Cpu;
 
 pub const STATE: usize = 52;
 
@@ -156,13 +159,21 @@ fn canonical(regs: &mut [u32; 32], word: u32, fpscr: u32) {
     });
 }
 
-/// One Rust call. `cpu` may hold anything in the parts that are not in the state; they may not move, and the call panics if
-/// they do. A load or store outside the limits is refused as document 01 says, before the Rust is asked.
-pub fn run(cpu: &mut Cpu, call: Call, thumb: bool, word: u32, base: u32, state: &mut [u32; STATE], window: &mut [u32]) -> (u32, u32, u32) {
+/// The kind of a call, the address and the word that it reports, and whether another part of the Cpu moved.
+pub struct Outcome {
+    pub kind: u32,
+    pub address: u32,
+    pub word: u32,
+    pub moved: bool,
+}
+
+/// One Rust call. `cpu` may hold anything in the parts that are not in the state. A load or store outside the limits is refused
+/// as document 01 says, before the Rust is asked.
+pub fn run(cpu: &mut Cpu, call: Call, thumb: bool, word: u32, base: u32, state: &mut [u32; STATE], window: &mut [u32]) -> Outcome {
     if call == Call::LoadStore {
         let n = refusal(base, window.len());
         if n != 0 {
-            return (100 + n, 0, 0);
+            return Outcome { kind: 100 + n, address: 0, word: 0, moved: false };
         }
     }
     unpack(cpu, state, thumb);
@@ -175,17 +186,14 @@ pub fn run(cpu: &mut Cpu, call: Call, thumb: bool, word: u32, base: u32, state: 
         Call::Wrapper => arm::misc::coprocessor_register(cpu, &mut bus, word),
     };
     let branched = arm::take_branched(cpu);
-    assert!(arm::rest_equal(&before, cpu), "another part of the Cpu moved: {call:?} {word:08X}");
+    let moved = !arm::rest_equal(&before, cpu);
     if call == Call::DataProcessing {
         canonical(&mut cpu.vfp.regs, word, before.vfp.fpscr);
     }
     pack(cpu, state);
     match exit {
-        None => (if branched { 3 } else { 0 }, 0, 0),
-        Some(Exit::Undefined { pc, opcode }) => {
-            assert!(!branched);
-            (2, pc, opcode)
-        }
+        None => Outcome { kind: if branched { 3 } else { 0 }, address: 0, word: 0, moved },
+        Some(Exit::Undefined { pc, opcode }) if !branched => Outcome { kind: 2, address: pc, word: opcode, moved },
         Some(other) => panic!("no call answers {other:?}"),
     }
 }
@@ -194,8 +202,14 @@ pub fn run(cpu: &mut Cpu, call: Call, thumb: bool, word: u32, base: u32, state: 
 pub fn answer(case: &Case) -> Reply {
     let mut state = case.state;
     let mut window = case.window.clone();
-    let (kind, address, word) = run(&mut Cpu::new(), case.call, case.thumb, case.word, case.base, &mut state, &mut window);
-    Reply { kind, address, word, state, window }
+    let o = run(&mut Cpu::new(), case.call, case.thumb, case.word, case.base, &mut state, &mut window);
+    assert!(!o.moved, "another part of the Cpu moved: {}", case.line());
+    Reply { kind: o.kind, address: o.address, word: o.word, state, window }
+}
+
+/// fills the parts of the Cpu that are not in the state.
+pub fn fill_rest(cpu: &mut Cpu, next: impl FnMut() -> u32) {
+    arm::fill_rest(cpu, next);
 }
 
 /// check_condition on the flags of place 51.
