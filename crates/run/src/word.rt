@@ -46,7 +46,7 @@ pub fn execute(
     }
     Executed {
         controls: x,
-        next: Next::On,
+        next: Next::On, // skipped, and counted
     }
 }
 

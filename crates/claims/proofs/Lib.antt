@@ -1,0 +1,3 @@
+-- The claims' proofs.
+pub mod Values
+pub mod Decoding

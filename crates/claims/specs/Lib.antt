@@ -1,0 +1,3 @@
+-- What is claimed of the definitions that the public contracts cite.
+pub mod Values
+pub mod Decoding
