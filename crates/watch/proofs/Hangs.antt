@@ -31,65 +31,14 @@ undefined thumb w st μ = refl
 -- ---- the extension group, by bits 19:16
 
 module _ (f : Format) (w k : ℕ) (p : k ≡ field w 16 19) (st : State) (μ : Map) where
-  at-bit : (n : ℕ) → k ≡ n → (h : Hang) → ((b : Bool) → h ≡ hangOf (operationTree false f w (extensionBy n b)) st μ) → h ≡ hangOf (extensionTree f w false) st μ
-  at-bit n e h g = rw (← p, e) (g (bitOf w 7))
-
-  pub sign-steps : k ≡ 0 → pickHang (known μ control) clear (at 49) ≡ hangOf (extensionTree f w false) st μ
-  unfolding hangOf operationTree extensionBy
-  sign-steps e = at-bit 0 e _ by
+  -- where bit 7 makes no difference
+  pub either-bit : (n : ℕ) → k ≡ n → (h : Hang) → h ≡ hangOf (operationTree false f w (extensionBy n true)) st μ → h ≡ hangOf (operationTree false f w (extensionBy n false)) st μ
+      → h ≡ hangOf (extensionTree f w false) st μ
+  either-bit n e h p′ q′ = rw (← p, e) (by (bitOf w 7))
     where
-      by : (b : Bool) → pickHang (known μ control) clear (at 49) ≡ hangOf (operationTree false f w (extensionBy 0 b)) st μ
-      by true = refl
-      by false = refl
-
-  pub root-steps : k ≡ 1 → pickHang (known μ control) clear (at 49) ≡ hangOf (extensionTree f w false) st μ
-  unfolding hangOf operationTree extensionBy
-  root-steps e = at-bit 1 e _ by
-    where
-      by : (b : Bool) → pickHang (known μ control) clear (at 49) ≡ hangOf (operationTree false f w (extensionBy 1 b)) st μ
-      by true = refl
-      by false = refl
-
-  -- the numbers of what neither steps nor is Undefined
-  pub clear-four : k ≡ 4 → clear ≡ hangOf (extensionTree f w false) st μ
-  unfolding hangOf operationTree extensionBy
-  clear-four e = at-bit 4 e clear by
-    where
-      by : (b : Bool) → clear ≡ hangOf (operationTree false f w (extensionBy 4 b)) st μ
-      by true = refl
-      by false = refl
-
-  pub clear-five : k ≡ 5 → clear ≡ hangOf (extensionTree f w false) st μ
-  unfolding hangOf operationTree extensionBy
-  clear-five e = at-bit 5 e clear by
-    where
-      by : (b : Bool) → clear ≡ hangOf (operationTree false f w (extensionBy 5 b)) st μ
-      by true = refl
-      by false = refl
-
-  pub clear-eight : k ≡ 8 → clear ≡ hangOf (extensionTree f w false) st μ
-  unfolding hangOf operationTree extensionBy
-  clear-eight e = at-bit 8 e clear by
-    where
-      by : (b : Bool) → clear ≡ hangOf (operationTree false f w (extensionBy 8 b)) st μ
-      by true = refl
-      by false = refl
-
-  pub clear-twelve : k ≡ 12 → clear ≡ hangOf (extensionTree f w false) st μ
-  unfolding hangOf operationTree extensionBy
-  clear-twelve e = at-bit 12 e clear by
-    where
-      by : (b : Bool) → clear ≡ hangOf (operationTree false f w (extensionBy 12 b)) st μ
-      by true = refl
-      by false = refl
-
-  pub clear-thirteen : k ≡ 13 → clear ≡ hangOf (extensionTree f w false) st μ
-  unfolding hangOf operationTree extensionBy
-  clear-thirteen e = at-bit 13 e clear by
-    where
-      by : (b : Bool) → clear ≡ hangOf (operationTree false f w (extensionBy 13 b)) st μ
-      by true = refl
-      by false = refl
+      by : (b : Bool) → h ≡ hangOf (operationTree false f w (extensionBy n b)) st μ
+      by true = p′
+      by false = q′
 
   pub convert-clear : k ≡ 7 → (b : Bool) → b ≡ bitOf w 7 → b ≡ true → clear ≡ hangOf (extensionTree f w false) st μ
   unfolding hangOf operationTree extensionBy

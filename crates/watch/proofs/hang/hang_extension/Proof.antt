@@ -1,10 +1,13 @@
 -- `watch::hang::hang_extension` meets its contract.
 use mathlib.Core.Bool.{false}
-use mathlib.Core.Path.{_∙_}
+use mathlib.Core.Path.{refl, _∙_}
 use denote.Ref.{now}
 use borrow.Author.Needs.{needs}
+use Rattle.processing.specs.Data.{operationTree}
+use Rattle.processing.specs.Operation.{extensionBy}
+use Rattle.meaning.specs.Hang.{clear, hangOf}
 use Rattle.processing.proofs.Done.{extension-none}
-use Rattle.watch.proofs.Hangs.{convert-clear, convert-none, sign-steps, root-steps, clear-four, clear-five, clear-eight, clear-twelve, clear-thirteen, undefined}
+use Rattle.watch.proofs.Hangs.{convert-clear, convert-none, either-bit, undefined}
 use Rattle.meaning.specs.Map.{mapFrom}
 use Rattle.watch.proofs.hang.hang_extension.Statement.{statement}
 use Rattle.watch.proofs.hang.hang_extension.Tie as tie
@@ -37,28 +40,35 @@ asked-requires-4 : tie.Need-asked-requires-4
 asked-requires-4 c κs = search needs
 
 returns-2 : tie.Need-returns-2
-returns-2 c = λ f st s w. c .asked .ensures ∙ sign-steps f (c .before .before .before .args .op) _ (c .before .before .bits .ensures) st (mapFrom s (now (c .before .before .before .args .kr)) (c .before .before .before .args .k) w) (c .before .match .keys1)
+unfolding hangOf operationTree extensionBy
+returns-2 c = λ f st s w. c .asked .ensures ∙ either-bit f (c .before .before .before .args .op) _ (c .before .before .bits .ensures) st (mapFrom s (now (c .before .before .before .args .kr)) (c .before .before .before .args .k) w) 0 (c .before .match .keys1) _ refl refl
 
 returns-3 : tie.Need-returns-3
-returns-3 c = λ f st s w. c .asked2 .ensures ∙ root-steps f (c .before .before .before .args .op) _ (c .before .before .bits .ensures) st (mapFrom s (now (c .before .before .before .args .kr)) (c .before .before .before .args .k) w) (c .before .match .keys2)
+unfolding hangOf operationTree extensionBy
+returns-3 c = λ f st s w. c .asked2 .ensures ∙ either-bit f (c .before .before .before .args .op) _ (c .before .before .bits .ensures) st (mapFrom s (now (c .before .before .before .args .kr)) (c .before .before .before .args .k) w) 1 (c .before .match .keys2) _ refl refl
 
 returns-4 : tie.Need-returns-4
-returns-4 c = λ f st s w. clear-four f (c .before .before .args .op) _ (c .before .bits .ensures) st (mapFrom s (now (c .before .before .args .kr)) (c .before .before .args .k) w) (c .match .keys3)
+unfolding hangOf operationTree extensionBy
+returns-4 c = λ f st s w. either-bit f (c .before .before .args .op) _ (c .before .bits .ensures) st (mapFrom s (now (c .before .before .args .kr)) (c .before .before .args .k) w) 4 (c .match .keys3) clear refl refl
 
 returns-5 : tie.Need-returns-5
-returns-5 c = λ f st s w. clear-five f (c .before .before .args .op) _ (c .before .bits .ensures) st (mapFrom s (now (c .before .before .args .kr)) (c .before .before .args .k) w) (c .match .keys4)
+unfolding hangOf operationTree extensionBy
+returns-5 c = λ f st s w. either-bit f (c .before .before .args .op) _ (c .before .bits .ensures) st (mapFrom s (now (c .before .before .args .kr)) (c .before .before .args .k) w) 5 (c .match .keys4) clear refl refl
 
 returns-6 : tie.Need-returns-6
 returns-6 c = λ f st s w. c .asked3 .ensures ∙ convert-none f (c .before .before .before .before .before .before .args .op) _ (c .before .before .before .before .before .bits .ensures) st (mapFrom s (now (c .before .before .before .before .before .before .args .kr)) (c .before .before .before .before .before .before .args .k) w) (c .before .before .before .before .match .keys5) _ (c .before .before .before .bit .ensures) (c .before .before .if1 .left)
 
 returns-7 : tie.Need-returns-7
-returns-7 c = λ f st s w. clear-eight f (c .before .before .args .op) _ (c .before .bits .ensures) st (mapFrom s (now (c .before .before .args .kr)) (c .before .before .args .k) w) (c .match .keys6)
+unfolding hangOf operationTree extensionBy
+returns-7 c = λ f st s w. either-bit f (c .before .before .args .op) _ (c .before .bits .ensures) st (mapFrom s (now (c .before .before .args .kr)) (c .before .before .args .k) w) 8 (c .match .keys6) clear refl refl
 
 returns-8 : tie.Need-returns-8
-returns-8 c = λ f st s w. clear-twelve f (c .before .before .args .op) _ (c .before .bits .ensures) st (mapFrom s (now (c .before .before .args .kr)) (c .before .before .args .k) w) (c .match .keys7)
+unfolding hangOf operationTree extensionBy
+returns-8 c = λ f st s w. either-bit f (c .before .before .args .op) _ (c .before .bits .ensures) st (mapFrom s (now (c .before .before .args .kr)) (c .before .before .args .k) w) 12 (c .match .keys7) clear refl refl
 
 returns-9 : tie.Need-returns-9
-returns-9 c = λ f st s w. clear-thirteen f (c .before .before .args .op) _ (c .before .bits .ensures) st (mapFrom s (now (c .before .before .args .kr)) (c .before .before .args .k) w) (c .match .keys8)
+unfolding hangOf operationTree extensionBy
+returns-9 c = λ f st s w. either-bit f (c .before .before .args .op) _ (c .before .bits .ensures) st (mapFrom s (now (c .before .before .args .kr)) (c .before .before .args .k) w) 13 (c .match .keys8) clear refl refl
 
 returns-10 : tie.Need-returns-10
 returns-10 c = λ f st s w. rw (extension-none f (c .before .before .before .before .args .op) false (c .before .before .before .bits .result) (c .before .before .before .bits .ensures) (c .before .before .match .rest .0 .0 .0 .0 .0 .0 .0 .1) (c .before .before .match .rest .0 .0 .0 .0 .0 .0 .1) (c .before .before .match .rest .0 .0 .0 .0 .0 .1) (c .before .before .match .rest .0 .0 .0 .0 .1) (c .before .before .match .rest .0 .0 .0 .1) (c .before .before .match .rest .0 .0 .1) (c .before .before .match .rest .0 .1) (c .before .before .match .rest .1)) (c .asked4 .ensures ∙ undefined false (c .before .before .before .before .args .op) st (mapFrom s (now (c .before .before .before .before .args .kr)) (c .before .before .before .before .args .k) w))
