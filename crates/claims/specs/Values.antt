@@ -40,7 +40,7 @@ length3 = 0x3_0000
 abbrev pub stride2 : ℕ
 stride2 = 0x31_0000
 
--- s8 to s23 with the numbers that s16 to s23 hold told apart: none of s0 to s15 holds any of them
+-- s0 to s15, and s16 to s23, which hold different numbers
 abbrev pub sixteen : List ℕ
 sixteen = replicate 16 0
 
