@@ -209,15 +209,15 @@ pub fn single(r: &mut Random) -> u32 {
 }
 
 pub fn double(r: &mut Random) -> u64 {
-    match r.below(10) {
+    match r.below(12) {
         0 | 1 => r.pick(&DOUBLES),
         2 => r.pick(&DOUBLES).wrapping_add(r.below(5) as u64).wrapping_sub(2),
         3 => (r.below(64) as f64 / 2.0 - 16.0).to_bits(),
         4 => r.next() & 0x800F_FFFF_FFFF_FFFF | ((991 + r.below(64)) as u64) << 52,
         5 => r.next() & 0x801F_FFFF_FFFF_FFFF,
         // near the singles, halfway between two of them, and below the least of them
-        6 => (f32::from_bits(single(r)) as f64).to_bits().wrapping_add(r.pick(&[0, 1, 1 << 28, (1 << 28) + 1, (1 << 28) - 1, 1 << 29])),
-        7 => r.next() & 0x800F_FFFF_FFFF_FFFF | ((870 + r.below(40)) as u64) << 52,
+        6..=8 => (f32::from_bits(single(r)) as f64).to_bits().wrapping_add(r.pick(&[0, 1, 1 << 28, (1 << 28) + 1, (1 << 28) + 1, (1 << 28) - 1])),
+        9 => r.next() & 0x800F_FFFF_FFFF_FFFF | ((870 + r.below(40)) as u64) << 52,
         _ => r.next(),
     }
 }

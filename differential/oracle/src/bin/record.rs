@@ -1,4 +1,4 @@
-//! record FILE: writes a sample of the Rust's answers, some of every operation in every width, of every answer, ARM and Thumb.
+//! record FILE [OF_EACH]: writes a sample of the Rust's answers, some of every operation in every width, of every answer, ARM and Thumb.
 //! A record is 128 words of 32 bits, lowest byte first:
 //! 0 call (as Call::number, or 4: conditions), 1 thumb, 2 word, 3 base, 4 window words, 5 kind, 6 address, 7 word reported,
 //! 8 to 59 the state given, 60 to 67 the window given, 68 to 119 the state left, 120 to 127 the window left.
@@ -8,8 +8,6 @@
 use oracle::cases::{self, Random, OPERATIONS};
 use oracle::{answer, Call, Case, STATE};
 use std::io::Write;
-
-const OF_EACH: usize = 32;
 
 fn record(case: &Case) -> [u32; 128] {
     let reply = answer(case);
@@ -34,7 +32,9 @@ fn record(case: &Case) -> [u32; 128] {
 }
 
 fn main() {
-    let path = std::env::args().nth(1).expect("usage: record FILE");
+    let args: Vec<String> = std::env::args().collect();
+    let path = args.get(1).expect("usage: record FILE [OF_EACH]");
+    let of_each: usize = args.get(2).map_or(32, |n| n.parse().unwrap());
     let mut out = Vec::new();
     let mut write = |words: [u32; 128]| words.iter().for_each(|w| out.extend_from_slice(&w.to_le_bytes()));
     let mut conditions = [0; 128];
@@ -71,7 +71,7 @@ fn main() {
             continue;
         }
         let count = if refusal == 0 { &mut counts[cases::operation(call, word)][width] } else { &mut refused[refusal] };
-        let most = if width == 2 { OF_EACH / 4 } else { OF_EACH };
+        let most = if width == 2 { of_each / 4 } else { of_each };
         if *count < most {
             *count += 1;
             write(record(&Case { call, thumb: r.once_in(3), word, base, state, window }));
@@ -81,6 +81,6 @@ fn main() {
         println!("{name:24} {:>4} {:>4} {:>4}", counts[0], counts[1], counts[2]);
     }
     println!("refusals 2, 3, 4: {:?}", &refused[2..]);
-    std::fs::File::create(&path).unwrap().write_all(&out).unwrap();
+    std::fs::File::create(path).unwrap().write_all(&out).unwrap();
     println!("{} records", out.len() / 512);
 }
