@@ -1,0 +1,128 @@
+//! The floating point unit, safely: libfpu.a behind references, which are valid and do not overlap.
+
+use std::os::raw::c_uint;
+
+pub const STATE_WORDS: usize = 52;
+pub const ANSWER_WORDS: usize = 4;
+
+extern "C" {
+    fn fpu_new(state: *mut u32, state_words: usize) -> c_uint;
+    fn fpu_data_processing(state: *mut u32, state_words: usize, thumb: u32, word: u32, answer: *mut u32, answer_words: usize) -> c_uint;
+    fn fpu_coprocessor_register(state: *mut u32, state_words: usize, thumb: u32, word: u32, answer: *mut u32, answer_words: usize) -> c_uint;
+    fn fpu_coprocessor_load_store(
+        state: *mut u32,
+        state_words: usize,
+        window: *mut u32,
+        window_words: usize,
+        base: u32,
+        thumb: u32,
+        word: u32,
+        answer: *mut u32,
+        answer_words: usize,
+    ) -> c_uint;
+    fn fpu_check_condition(condition: u32, nzcv: u32) -> c_uint;
+}
+
+/// The functions as C has them, over slices of any length: the result, as include/fpu.h numbers it.
+pub mod raw {
+    pub fn new(state: &mut [u32]) -> u32 {
+        unsafe { super::fpu_new(state.as_mut_ptr(), state.len()) }
+    }
+
+    pub fn data_processing(state: &mut [u32], thumb: u32, word: u32, answer: &mut [u32]) -> u32 {
+        unsafe { super::fpu_data_processing(state.as_mut_ptr(), state.len(), thumb, word, answer.as_mut_ptr(), answer.len()) }
+    }
+
+    pub fn coprocessor_register(state: &mut [u32], thumb: u32, word: u32, answer: &mut [u32]) -> u32 {
+        unsafe { super::fpu_coprocessor_register(state.as_mut_ptr(), state.len(), thumb, word, answer.as_mut_ptr(), answer.len()) }
+    }
+
+    pub fn coprocessor_load_store(state: &mut [u32], window: &mut [u32], base: u32, thumb: u32, word: u32, answer: &mut [u32]) -> u32 {
+        unsafe {
+            super::fpu_coprocessor_load_store(
+                state.as_mut_ptr(),
+                state.len(),
+                window.as_mut_ptr(),
+                window.len(),
+                base,
+                thumb,
+                word,
+                answer.as_mut_ptr(),
+                answer.len(),
+            )
+        }
+    }
+
+    pub fn check_condition(condition: u32, nzcv: u32) -> u32 {
+        unsafe { super::fpu_check_condition(condition, nzcv) }
+    }
+}
+
+/// How a call ends.
+#[derive(Clone, Copy, PartialEq, Eq, Debug)]
+pub enum Exit {
+    Nothing,
+    Undefined { address: u32, word: u32 },
+    Branched,
+    Refused(u8),
+}
+
+/// A state with a bit outside a place's own: nothing was done.
+#[derive(Clone, Copy, PartialEq, Eq, Debug)]
+pub struct NoMachine;
+
+/// A machine: the 52 words of its state, and its Thumb bit.
+#[derive(Clone, Copy, PartialEq, Eq, Debug)]
+pub struct Machine {
+    pub state: [u32; STATE_WORDS],
+    pub thumb: bool,
+}
+
+impl Default for Machine {
+    fn default() -> Self {
+        Self::new()
+    }
+}
+
+fn exit(kind: u32, answer: [u32; ANSWER_WORDS]) -> Result<Exit, NoMachine> {
+    match kind {
+        0 => Ok(Exit::Nothing),
+        2 => Ok(Exit::Undefined { address: answer[2], word: answer[3] }),
+        3 => Ok(Exit::Branched),
+        102..=104 => Ok(Exit::Refused((kind - 100) as u8)),
+        255 => Err(NoMachine),
+        _ => unreachable!("kind {kind}"),
+    }
+}
+
+impl Machine {
+    /// in ARM state.
+    pub fn new() -> Machine {
+        let mut state = [0; STATE_WORDS];
+        assert_eq!(raw::new(&mut state), 0);
+        Machine { state, thumb: false }
+    }
+
+    pub fn data_processing(&mut self, word: u32) -> Result<Exit, NoMachine> {
+        let mut answer = [0; ANSWER_WORDS];
+        exit(raw::data_processing(&mut self.state, self.thumb as u32, word, &mut answer), answer)
+    }
+
+    pub fn coprocessor_register(&mut self, word: u32) -> Result<Exit, NoMachine> {
+        let mut answer = [0; ANSWER_WORDS];
+        exit(raw::coprocessor_register(&mut self.state, self.thumb as u32, word, &mut answer), answer)
+    }
+
+    pub fn coprocessor_load_store(&mut self, window: &mut [u32], base: u32, word: u32) -> Result<Exit, NoMachine> {
+        let mut answer = [0; ANSWER_WORDS];
+        exit(raw::coprocessor_load_store(&mut self.state, window, base, self.thumb as u32, word, &mut answer), answer)
+    }
+
+    /// whether an instruction of this condition, in its low four bits, is executed.
+    pub fn check_condition(&self, condition: u32) -> Result<bool, NoMachine> {
+        match raw::check_condition(condition, self.state[51]) {
+            255 => Err(NoMachine),
+            held => Ok(held == 1),
+        }
+    }
+}

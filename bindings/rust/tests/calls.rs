@@ -1,0 +1,90 @@
+//! A few calls by the wrapper, and what 255 does.
+
+use fpu::{raw, Exit, Machine, NoMachine};
+
+#[test]
+fn a_new_machine() {
+    let m = Machine::new();
+    assert!(m.state.iter().enumerate().all(|(i, &w)| w == if i == 50 { 0x4000_0000 } else { 0 }));
+    assert!(!m.thumb);
+}
+
+#[test]
+fn a_sum_and_an_undefined_word() {
+    let mut m = Machine::new();
+    m.state[1] = 1.0f32.to_bits();
+    m.state[2] = 2.0f32.to_bits();
+    m.state[47] = 0x1000;
+    assert_eq!(m.data_processing(0xEE30_0A81), Ok(Exit::Nothing));
+    assert_eq!(m.state[0], 3.0f32.to_bits());
+    let before = m;
+    assert_eq!(m.data_processing(0xEEB7_0A40), Ok(Exit::Undefined { address: 0xFF8, word: 0xEEB7_0A40 }));
+    m.thumb = true;
+    assert_eq!(m.data_processing(0xEEB7_0A40), Ok(Exit::Undefined { address: 0xFFC, word: 0xEEB7_0A40 }));
+    assert_eq!(m.state, before.state);
+}
+
+#[test]
+fn a_branch() {
+    let mut m = Machine::new();
+    m.state[1] = 0x1237;
+    assert_eq!(m.coprocessor_register(0xEE10_FA90), Ok(Exit::Branched));
+    assert_eq!(m.state[47], 0x1234);
+    m.thumb = true;
+    assert_eq!(m.coprocessor_register(0xEE10_FA90), Ok(Exit::Branched));
+    assert_eq!(m.state[47], 0x1236);
+}
+
+#[test]
+fn a_load_a_store_and_refusals() {
+    let mut m = Machine::new();
+    m.state[32] = 0x8004;
+    let mut window = [7, 8, 9];
+    assert_eq!(m.coprocessor_load_store(&mut window, 0x8000, 0xED90_0A00), Ok(Exit::Nothing));
+    assert_eq!(m.state[0], 8);
+    m.state[0] = 5;
+    assert_eq!(m.coprocessor_load_store(&mut window, 0x8000, 0xED80_0A01), Ok(Exit::Nothing));
+    assert_eq!(window, [7, 8, 5]);
+    let before = m;
+    assert_eq!(m.coprocessor_load_store(&mut window, 0x8001, 0xED90_0A00), Ok(Exit::Refused(3)));
+    assert_eq!(m.coprocessor_load_store(&mut window, 0xFFFF_FFF8, 0xED90_0A00), Ok(Exit::Refused(4)));
+    assert_eq!(m.coprocessor_load_store(&mut vec![0; 16385], 0x8001, 0xED90_0A00), Ok(Exit::Refused(2)));
+    assert_eq!(m.coprocessor_load_store(&mut [], 0x8000, 0xED90_0A00), Ok(Exit::Nothing));
+    assert_eq!((m.state[0], before.state[0]), (0, 5));
+}
+
+#[test]
+fn what_255_touches() {
+    let (mut state, mut answer, mut window) = ([1u32; 53], [9u32; 5], [3u32; 2]);
+    for words in [48, 49, 51] {
+        state[words] = 0;
+    }
+    let kept = state;
+    assert_eq!(raw::new(&mut state[..51]), 255);
+    assert_eq!(raw::data_processing(&mut state[..53], 0, 0xEE30_0A81, &mut answer[..4]), 255);
+    assert_eq!(raw::data_processing(&mut state[..52], 2, 0xEE30_0A81, &mut answer[..4]), 255);
+    assert_eq!(raw::coprocessor_register(&mut state[..52], 0, 0xEE10_FA90, &mut answer[..3]), 255);
+    assert_eq!(raw::coprocessor_load_store(&mut state[..52], &mut window, 1, 0, 0xED90_0A00, &mut answer), 255);
+    assert_eq!((state, answer, window), (kept, [9; 5], [3; 2]));
+    for (place, bit) in [(48, 0x0800_0000), (49, 0x1000_0000), (51, 1)] {
+        let mut m = Machine::new();
+        m.state[place] |= bit;
+        let before = m;
+        assert_eq!(m.data_processing(0xEE30_0A81), Err(NoMachine));
+        assert_eq!(m, before);
+    }
+    state[52] = 0;
+    answer = [9; 5];
+    assert_eq!(raw::data_processing(&mut state[..52], 0, 0xEE30_0A81, &mut answer[..4]), 0);
+    assert_eq!(answer, [0, 0, 0, 0, 9]);
+}
+
+#[test]
+fn conditions() {
+    let mut m = Machine::new();
+    assert_eq!((m.check_condition(0), m.check_condition(1), m.check_condition(14)), (Ok(false), Ok(true), Ok(true)));
+    m.state[51] = 0x4000_0000;
+    assert_eq!((m.check_condition(0), m.check_condition(1)), (Ok(true), Ok(false)));
+    m.state[51] |= 1;
+    assert_eq!(m.check_condition(0), Err(NoMachine));
+}

@@ -1,0 +1,3 @@
+pub mod Copied
+pub mod Calls
+pub mod Spelling

@@ -1,0 +1,23 @@
+-- `fpu::fpu_new` meets its contract.
+use borrow.Author.Tests.{eq-eqb, ne-eqb}
+use borrow.Author.Needs.{needs}
+use Rattle.fpu.proofs.fpu_new.Statement.{statement}
+use Rattle.fpu.proofs.fpu_new.Tie as tie
+
+returns : tie.Need-returns
+returns c = rw (ne-eqb _ _ (c .if1 .taken))
+
+new-requires : tie.Need-new-requires
+new-requires c κs = search needs
+
+pack-requires : tie.Need-pack-requires
+pack-requires c κs = search needs
+
+same-length : tie.Need-same-length
+same-length c = search needs
+
+returns-2 : tie.Need-returns-2
+returns-2 c = rw (eq-eqb _ _ (c .before .before .before .before .before .if1 .left), c .before .before .pack .ensures, c .before .before .before .before .new .ensures)
+
+pub fpu-new-spec : {M : Type 1} → statement M
+fpu-new-spec = tie.close (tie.spec returns new-requires pack-requires same-length returns-2)

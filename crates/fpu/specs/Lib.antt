@@ -1,0 +1,3 @@
+-- What the exported functions promise.
+pub mod Spelling
+pub mod Left

@@ -1,0 +1,279 @@
+//! The Rust's calls over the states of the C interface: 52 words and a window.
+
+pub mod cases;
+
+use zakuro_cpu::{arm, check_condition, vfp, Bus, Exit, Psr};
+pub use zakuro_cpu::Cpu;
+
+pub const STATE: usize = 52;
+
+/// the calls. `Wrapper` is arm::misc's coprocessor_register, which routes by coprocessor.
+#[derive(Clone, Copy, PartialEq, Eq, Debug)]
+pub enum Call {
+    DataProcessing,
+    CoprocessorRegister,
+    LoadStore,
+    Wrapper,
+}
+
+/// everything that a call is given.
+#[derive(Clone, PartialEq, Eq, Debug)]
+pub struct Case {
+    pub call: Call,
+    pub thumb: bool,
+    pub word: u32,
+    pub base: u32,
+    pub state: [u32; STATE],
+    pub window: Vec<u32>,
+}
+
+/// everything that it leaves: the kind by the C interface's numbers, what Undefined reports, the state and the window.
+#[derive(Clone, PartialEq, Eq, Debug)]
+pub struct Reply {
+    pub kind: u32,
+    pub address: u32,
+    pub word: u32,
+    pub state: [u32; STATE],
+    pub window: Vec<u32>,
+}
+
+/// document 01's window: the low two bits of an address are ignored; outside, a read gives 0 and a write is dropped.
+struct Window<'a> {
+    base: u32,
+    words: &'a mut [u32],
+}
+
+impl Window<'_> {
+    fn at(&mut self, addr: u32) -> Option<&mut u32> {
+        let offset = (addr as u64 & !3).checked_sub(self.base as u64)?;
+        self.words.get_mut((offset / 4) as usize)
+    }
+}
+
+impl Bus for Window<'_> {
+    fn read8(&mut self, _: u32) -> u8 {
+        unimplemented!()
+    }
+
+    fn read16(&mut self, _: u32) -> u16 {
+        unimplemented!()
+    }
+
+    fn read32(&mut self, addr: u32) -> u32 {
+        self.at(addr).map_or(0, |w| *w)
+    }
+
+    fn write8(&mut self, _: u32, _: u8) {
+        unimplemented!()
+    }
+
+    fn write16(&mut self, _: u32, _: u16) {
+        unimplemented!()
+    }
+
+    fn write32(&mut self, addr: u32, value: u32) {
+        if let Some(w) = self.at(addr) {
+            *w = value;
+        }
+    }
+}
+
+/// the first of refusals 2, 3 and 4 that applies to a window (document 01; the Rust has none), or 0.
+pub fn refusal(base: u32, words: usize) -> u32 {
+    if words > 16384 {
+        2
+    } else if base % 4 != 0 {
+        3
+    } else if base as u64 + 4 * words as u64 > 1 << 32 {
+        4
+    } else {
+        0
+    }
+}
+
+/// whether a state spells a machine: no bit outside a place's own.
+pub fn spells(state: &[u32; STATE]) -> bool {
+    state[48] & 0x0FFF_FFFF == 0 && state[49] & 0xF000_0000 == 0 && state[51] & 0x0FFF_FFFF == 0
+}
+
+fn flags(word: u32) -> [bool; 4] {
+    [31, 30, 29, 28].map(|n| word >> n & 1 == 1)
+}
+
+pub fn unpack(cpu: &mut Cpu, state: &[u32; STATE], thumb: bool) {
+    cpu.vfp.regs.copy_from_slice(&state[..32]);
+    cpu.regs.copy_from_slice(&state[32..48]);
+    cpu.vfp.fpscr = state[48] | state[49];
+    cpu.vfp.fpexc = state[50];
+    [cpu.cpsr.n, cpu.cpsr.z, cpu.cpsr.c, cpu.cpsr.v] = flags(state[51]);
+    cpu.cpsr.thumb = thumb;
+}
+
+pub fn pack(cpu: &Cpu, state: &mut [u32; STATE]) {
+    state[..32].copy_from_slice(&cpu.vfp.regs);
+    state[32..48].copy_from_slice(&cpu.regs);
+    state[48] = cpu.vfp.fpscr & 0xF000_0000;
+    state[49] = cpu.vfp.fpscr & 0x0FFF_FFFF;
+    state[50] = cpu.vfp.fpexc;
+    state[51] = cpu.cpsr.to_bits() & 0xF000_0000;
+}
+
+/// the registers that a word of arithmetic, root or width conversion writes, in the word's own decoding.
+fn float_targets(word: u32, fpscr: u32, mut each: impl FnMut(bool, usize)) {
+    let field = |lo: u32, width: u32| word >> lo & ((1 << width) - 1);
+    let double = match field(8, 4) {
+        10 => false,
+        11 => true,
+        _ => return,
+    };
+    let number = |double: bool| {
+        let (v, extra) = (field(12, 4) as usize, field(22, 1) as usize);
+        if double { extra * 16 + v } else { v * 2 + extra }
+    };
+    match (field(20, 4) & 0b1011, field(6, 1), field(16, 4), field(7, 1)) {
+        (0..=3, ..) | (8, 0, ..) | (11, 1, 1, 1) => {}
+        (11, 1, 7, 1) => return each(!double, number(!double)),
+        _ => return,
+    }
+    let bank = if double { 4 } else { 8 };
+    let d = number(double);
+    let length = if d < bank { 1 } else { (fpscr >> 16 & 7) as usize + 1 };
+    let stride = if fpscr >> 20 & 3 == 3 { 2 } else { 1 };
+    for i in 0..length {
+        each(double, d / bank * bank + (d + i * stride) % bank);
+    }
+}
+
+/// makes the NaNs that a word of arithmetic, root or width conversion left canonical.
+fn canonical(regs: &mut [u32; 32], word: u32, fpscr: u32) {
+    float_targets(word, fpscr, |double, n| {
+        if double {
+            let (low, high) = (n * 2 % 32, (n * 2 + 1) % 32);
+            if f64::from_bits((regs[high] as u64) << 32 | regs[low] as u64).is_nan() {
+                regs[low] = 0;
+                regs[high] = 0x7FF8_0000;
+            }
+        } else if f32::from_bits(regs[n]).is_nan() {
+            regs[n] = 0x7FC0_0000;
+        }
+    });
+}
+
+/// The kind of a call, the address and the word that it reports, and whether another part of the Cpu moved.
+pub struct Outcome {
+    pub kind: u32,
+    pub address: u32,
+    pub word: u32,
+    pub moved: bool,
+}
+
+/// One Rust call. `cpu` may hold anything in the parts that are not in the state. A load or store outside the limits is refused
+/// as document 01 says, before the Rust is asked.
+pub fn run(cpu: &mut Cpu, call: Call, thumb: bool, word: u32, base: u32, state: &mut [u32; STATE], window: &mut [u32]) -> Outcome {
+    if call == Call::LoadStore {
+        let n = refusal(base, window.len());
+        if n != 0 {
+            return Outcome { kind: 100 + n, address: 0, word: 0, moved: false };
+        }
+    }
+    unpack(cpu, state, thumb);
+    let before = cpu.clone();
+    let mut bus = Window { base, words: window };
+    let exit = match call {
+        Call::DataProcessing => vfp::data_processing(cpu, word),
+        Call::CoprocessorRegister => vfp::coprocessor_register(cpu, word),
+        Call::LoadStore => vfp::coprocessor_load_store(cpu, &mut bus, word),
+        Call::Wrapper => arm::misc::coprocessor_register(cpu, &mut bus, word),
+    };
+    let branched = arm::take_branched(cpu);
+    let moved = !arm::rest_equal(&before, cpu);
+    if call == Call::DataProcessing {
+        canonical(&mut cpu.vfp.regs, word, before.vfp.fpscr);
+    }
+    pack(cpu, state);
+    match exit {
+        None => Outcome { kind: if branched { 3 } else { 0 }, address: 0, word: 0, moved },
+        Some(Exit::Undefined { pc, opcode }) if !branched => Outcome { kind: 2, address: pc, word: opcode, moved },
+        Some(other) => panic!("no call answers {other:?}"),
+    }
+}
+
+/// the same, of a case by value.
+pub fn answer(case: &Case) -> Reply {
+    let mut state = case.state;
+    let mut window = case.window.clone();
+    let o = run(&mut Cpu::new(), case.call, case.thumb, case.word, case.base, &mut state, &mut window);
+    assert!(!o.moved, "another part of the Cpu moved: {}", case.line());
+    Reply { kind: o.kind, address: o.address, word: o.word, state, window }
+}
+
+/// fills the parts of the Cpu that are not in the state.
+pub fn fill_rest(cpu: &mut Cpu, next: impl FnMut() -> u32) {
+    arm::fill_rest(cpu, next);
+}
+
+/// check_condition on the flags of place 51.
+pub fn condition(cond: u32, nzcv: u32) -> bool {
+    let [n, z, c, v] = flags(nzcv);
+    check_condition(cond, &Psr { n, z, c, v, ..Psr::default() })
+}
+
+impl Call {
+    pub fn number(self) -> u32 {
+        match self {
+            Call::DataProcessing => 0,
+            Call::CoprocessorRegister => 1,
+            Call::LoadStore => 2,
+            Call::Wrapper => 3,
+        }
+    }
+
+    pub fn of(number: u32) -> Option<Call> {
+        [Call::DataProcessing, Call::CoprocessorRegister, Call::LoadStore, Call::Wrapper].into_iter().find(|c| c.number() == number)
+    }
+}
+
+fn spaced(words: impl IntoIterator<Item = u32>) -> String {
+    words.into_iter().map(|w| format!("{w:X}")).collect::<Vec<_>>().join(" ")
+}
+
+impl Case {
+    /// a line of hexadecimal words: call, thumb, word, base, how many window words, these, and the 52 words of the state.
+    pub fn parse(line: &str) -> Result<Case, String> {
+        let words = line
+            .split_whitespace()
+            .map(|w| u32::from_str_radix(w, 16).map_err(|e| format!("{w}: {e}")))
+            .collect::<Result<Vec<u32>, String>>()?;
+        let few = || "too few words".to_string();
+        let count = *words.get(4).ok_or_else(few)? as usize;
+        let state = words.get(5 + count..).ok_or_else(few)?;
+        let case = Case {
+            call: Call::of(words[0]).ok_or("no such call")?,
+            thumb: match words[1] {
+                0 => false,
+                1 => true,
+                _ => return Err("thumb is neither 0 nor 1".into()),
+            },
+            word: words[2],
+            base: words[3],
+            window: words[5..5 + count].to_vec(),
+            state: state.try_into().map_err(|_| "the state has not 52 words".to_string())?,
+        };
+        if !spells(&case.state) {
+            return Err("a bit outside a place's own".into());
+        }
+        Ok(case)
+    }
+
+    pub fn line(&self) -> String {
+        let head = [self.call.number(), self.thumb as u32, self.word, self.base, self.window.len() as u32];
+        spaced(head.into_iter().chain(self.window.iter().copied()).chain(self.state))
+    }
+}
+
+impl Reply {
+    /// a line of hexadecimal words: kind, address, word, the 52 words of the state, and the window.
+    pub fn line(&self) -> String {
+        spaced([self.kind, self.address, self.word].into_iter().chain(self.state).chain(self.window.iter().copied()))
+    }
+}

@@ -1,0 +1,3 @@
+//! Stands in for zakuro-common's lib.rs.
+
+pub mod bits;

@@ -1,0 +1,75 @@
+/* The floating point unit: libfpu.a, built by `rt staticlib fpu` for x86-64 Linux. It needs the C library's memcpy.
+ *
+ * The caller's duties: each pointer is valid for as many elements as its length says, aligned for its type, and not null (for a
+ * length of 0 too: any aligned address will do); lent buffers do not overlap, and nothing else reads or writes them during a
+ * call. A length is any number: those that have to be one of the constants below are tested.
+ */
+#ifndef FPU_H
+#define FPU_H
+
+#include <stddef.h>
+#include <stdint.h>
+
+#ifdef __cplusplus
+extern "C" {
+#endif
+
+/* Lengths, in words. */
+#define FPU_STATE_WORDS 52
+#define FPU_ANSWER_WORDS 4
+#define FPU_WINDOW_MOST_WORDS 16384
+
+/* A state's words: s0 to s31, r0 to r15, and then these. A bit outside a place's own has to be 0. */
+#define FPU_PLACE_S0 0
+#define FPU_PLACE_R0 32
+#define FPU_PLACE_FPSCR_FLAGS 48   /* FPSCR bits 31:28, in position */
+#define FPU_PLACE_FPSCR_CONTROL 49 /* FPSCR bits 27:0 */
+#define FPU_PLACE_FPEXC 50
+#define FPU_PLACE_NZCV 51 /* the condition flags, in bits 31:28 */
+
+/* An answer's words; those that a kind does not have are 0, and so is the count of a single call. */
+#define FPU_ANSWER_COUNT 0
+#define FPU_ANSWER_PLACE 1
+#define FPU_ANSWER_ADDRESS 2
+#define FPU_ANSWER_WORD 3
+
+/* Results: kinds. */
+#define FPU_FINISHED 0  /* of a call: nothing to report */
+#define FPU_FOREIGN 1   /* of runs only */
+#define FPU_UNDEFINED 2 /* has an address and a word */
+#define FPU_BRANCHED 3
+#define FPU_HANGS 4     /* of the watched run only; has a place */
+#define FPU_REFUSED 100 /* 100 + n for refusal n; everything is as it came, and the answer's words are 0 */
+#define FPU_REFUSED_WINDOW_LONG 102      /* more than 16,384 words */
+#define FPU_REFUSED_BASE_ALIGNMENT 103   /* the base is no multiple of 4 */
+#define FPU_REFUSED_WINDOW_END 104       /* base + 4 * words exceeds 2^32 */
+
+/* Tested first, touching nothing: a state or an answer of another length, a bit of the state outside a place's own, a thumb
+ * that is neither 0 nor 1. */
+#define FPU_USELESS 255
+
+/* Makes the state a new machine's: all zero but FPEXC, 0x40000000. Gives FPU_FINISHED, or FPU_USELESS where it has not 52 words. */
+uint32_t fpu_new(uint32_t *state, size_t state_words);
+
+/* One instruction word each; none looks at the condition in bits 31:28. `thumb` is the Thumb bit of the machine. */
+
+/* Arithmetic, moves, compares, conversions (CDP). Gives FPU_FINISHED or FPU_UNDEFINED. */
+uint32_t fpu_data_processing(uint32_t *state, size_t state_words, uint32_t thumb, uint32_t word, uint32_t *answer, size_t answer_words);
+
+/* Transfers with core registers (MCR, MRC). Gives FPU_FINISHED or FPU_BRANCHED. */
+uint32_t fpu_coprocessor_register(uint32_t *state, size_t state_words, uint32_t thumb, uint32_t word, uint32_t *answer, size_t answer_words);
+
+/* Loads, stores and pairs (LDC, STC) over the words of memory from `base` on: the window. Outside it a read gives 0 and a write is
+ * dropped; the low two bits of an address are ignored. Gives FPU_FINISHED or one of the three refusals. */
+uint32_t fpu_coprocessor_load_store(uint32_t *state, size_t state_words, uint32_t *window, size_t window_words, uint32_t base,
+                                    uint32_t thumb, uint32_t word, uint32_t *answer, size_t answer_words);
+
+/* Whether an instruction of a condition (its low four bits) is executed under the flags of place 51: 1 or 0, or FPU_USELESS where
+ * another bit of nzcv is set. */
+uint32_t fpu_check_condition(uint32_t condition, uint32_t nzcv);
+
+#ifdef __cplusplus
+}
+#endif
+
+#endif
