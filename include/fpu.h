@@ -18,6 +18,7 @@ extern "C" {
 #define FPU_STATE_WORDS 52
 #define FPU_ANSWER_WORDS 4
 #define FPU_WINDOW_MOST_WORDS 16384
+#define FPU_LIST_MOST_WORDS 4096
 
 /* A state's words: s0 to s31, r0 to r15, and then these. A bit outside a place's own has to be 0. */
 #define FPU_PLACE_S0 0
@@ -40,9 +41,11 @@ extern "C" {
 #define FPU_BRANCHED 3
 #define FPU_HANGS 4     /* of the watched run only; has a place */
 #define FPU_REFUSED 100 /* 100 + n for refusal n; everything is as it came, and the answer's words are 0 */
+#define FPU_REFUSED_LIST_LONG 101        /* of runs only: more than 4,096 words */
 #define FPU_REFUSED_WINDOW_LONG 102      /* more than 16,384 words */
 #define FPU_REFUSED_BASE_ALIGNMENT 103   /* the base is no multiple of 4 */
 #define FPU_REFUSED_WINDOW_END 104       /* base + 4 * words exceeds 2^32 */
+#define FPU_REFUSED_THUMB 105            /* of runs only: thumb is 1 */
 
 /* Tested first, touching nothing: a state or an answer of another length, a bit of the state outside a place's own, a thumb
  * that is neither 0 nor 1. */
@@ -63,6 +66,12 @@ uint32_t fpu_coprocessor_register(uint32_t *state, size_t state_words, uint32_t 
  * dropped; the low two bits of an address are ignored. Gives FPU_FINISHED or one of the three refusals. */
 uint32_t fpu_coprocessor_load_store(uint32_t *state, size_t state_words, uint32_t *window, size_t window_words, uint32_t base,
                                     uint32_t thumb, uint32_t word, uint32_t *answer, size_t answer_words);
+
+/* Runs a list of words over a window, each under its condition, and counts those that were run, skipped ones too. Gives FPU_FINISHED
+ * at the list's end, FPU_FOREIGN or FPU_UNDEFINED before a word that is not counted, FPU_BRANCHED after one that is, or one of the
+ * refusals 101 to 105, the first that applies. */
+uint32_t fpu_run(uint32_t *state, size_t state_words, uint32_t *window, size_t window_words, uint32_t base, uint32_t thumb,
+                 const uint32_t *list, size_t list_words, uint32_t *answer, size_t answer_words);
 
 /* Whether an instruction of a condition (its low four bits) is executed under the flags of place 51: 1 or 0, or FPU_USELESS where
  * another bit of nzcv is set. */

@@ -20,6 +20,18 @@ extern "C" {
         answer: *mut u32,
         answer_words: usize,
     ) -> c_uint;
+    fn fpu_run(
+        state: *mut u32,
+        state_words: usize,
+        window: *mut u32,
+        window_words: usize,
+        base: u32,
+        thumb: u32,
+        list: *const u32,
+        list_words: usize,
+        answer: *mut u32,
+        answer_words: usize,
+    ) -> c_uint;
     fn fpu_check_condition(condition: u32, nzcv: u32) -> c_uint;
 }
 
@@ -47,6 +59,23 @@ pub mod raw {
                 base,
                 thumb,
                 word,
+                answer.as_mut_ptr(),
+                answer.len(),
+            )
+        }
+    }
+
+    pub fn run(state: &mut [u32], window: &mut [u32], base: u32, thumb: u32, list: &[u32], answer: &mut [u32]) -> u32 {
+        unsafe {
+            super::fpu_run(
+                state.as_mut_ptr(),
+                state.len(),
+                window.as_mut_ptr(),
+                window.len(),
+                base,
+                thumb,
+                list.as_ptr(),
+                list.len(),
                 answer.as_mut_ptr(),
                 answer.len(),
             )

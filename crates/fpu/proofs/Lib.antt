@@ -1,3 +1,5 @@
 pub mod Copied
 pub mod Calls
 pub mod Spelling
+pub mod Bounds
+pub mod Runs

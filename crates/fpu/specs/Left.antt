@@ -9,6 +9,7 @@ use Rattle.machine.specs.Machine.{newMachine}
 use Rattle.machine.specs.Place.{State, state}
 use Rattle.meaning.specs.Stop.{Report}
 use Rattle.vfp.specs.Call.{Reply}
+use Rattle.run.specs.Run as Run
 use Rattle.fpu.specs.Spelling.{spelling, spelled, spells}
 
 pub record Left : Type 0 where
@@ -43,6 +44,13 @@ pickLeft false a b = b
 -- what a call leaves whose reply is y: 255 touches nothing
 abbrev pub called : (State → Reply) → List ℕ → List ℕ → ℕ → List ℕ → Left
 called y l w thumb a = pickLeft (usable l thumb (length a)) (told 0 (y (state (spelled (eqb thumb 1) l) w))) (left useless l w a)
+
+-- what a plain run leaves whose reply is y, with its count
+abbrev pub toldRun : Run.Reply → Left
+toldRun y = told (y .count) (record { says = y .says; leaves = y .leaves })
+
+abbrev pub ran : (State → Run.Reply) → List ℕ → List ℕ → ℕ → List ℕ → Left
+ran y l w thumb a = pickLeft (usable l thumb (length a)) (toldRun (y (state (spelled (eqb thumb 1) l) w))) (left useless l w a)
 
 -- what is left of a state that is to become new: its result is 0, or 255 where it has not 52 words
 abbrev pub renewed : List ℕ → Left

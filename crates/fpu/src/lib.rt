@@ -1,17 +1,20 @@
 // The C interface: a machine is a state of 52 words, places 0 to 51 in order. include/fpu.h says what callers have to know.
 ghost use mathlib.Core.Path.{_≡_};
 ghost use mathlib.Core.List.{List, [], _∷_};
-ghost use Prim.Native.Nat.{ℕ, _<_};
+ghost use Prim.Native.Nat.{ℕ, _^_, _<_};
 ghost use lib.Dec.{eqb};
 ghost use lib.ListN.{length};
 ghost use Rattle.machine.specs.Machine.{newMachine};
 ghost use Rattle.processing.specs.Data.{dataTree};
 ghost use Rattle.transfers.specs.Transfer.{transferTree};
+ghost use Rattle.meaning.specs.Stop.{report};
 ghost use Rattle.vfp.specs.Call.{exitReport, reply, loadStoreReply};
+ghost use Rattle.run.specs.Run.{stopOf, runReply};
 ghost use Rattle.fpu.specs.Spelling.{spelling, spelled, spells, Spells};
-ghost use Rattle.fpu.specs.Left.{left, called, usable, answerOf, renewed, checked};
+ghost use Rattle.fpu.specs.Left.{left, called, ran, usable, answerOf, renewed, checked};
 use bits::psr::Psr;
 use machine::Machine;
+use run::Stop;
 use vfp::Exit;
 
 // Nothing was touched: a length, a bit of the state or thumb is not as it has to be.
@@ -96,20 +99,43 @@ fn tell(exit: Exit, answer: &mut [u32]) -> u32
     ensures { λ r. ⌜ (r ≡ exitReport exit .kind) × (now (answer .exit) ≡ answerOf 0 (exitReport exit)) ⌝ }
 {
     match exit {
-        Exit::Nothing => write_answer(answer, 0, 0, 0),
-        Exit::Undefined { pc, opcode } => write_answer(answer, 2, pc, opcode),
-        Exit::Branched => write_answer(answer, 3, 0, 0),
-        Exit::Refused(n) => write_answer(answer, 100 + n as u32, 0, 0),
+        Exit::Nothing => write_answer(answer, 0, 0, 0, 0, 0),
+        Exit::Undefined { pc, opcode } => write_answer(answer, 2, 0, 0, pc, opcode),
+        Exit::Branched => write_answer(answer, 3, 0, 0, 0, 0),
+        Exit::Refused(n) => write_answer(answer, 100 + n as u32, 0, 0, 0, 0),
     }
 }
 
-// Writes an answer without count and place, and hands its kind back.
-fn write_answer(answer: &mut [u32], kind: u32, address: u32, word: u32) -> u32
-    requires { ⌜ length (now answer) ≡ 4 ⌝ }
-    ensures { λ r. ⌜ (r ≡ kind) × (now (answer .exit) ≡ 0 ∷ 0 ∷ address ∷ word ∷ []) ⌝ }
+// The same of a run's stop, with the count.
+fn tell_stop(stop: Stop, count: usize, answer: &mut [u32]) -> u32
+    requires { ⌜ (length (now answer) ≡ 4) × (count < 2 ^ 32) × (report (stopOf stop) .place < 2 ^ 32) ⌝ }
+    ensures { λ r. ⌜ (r ≡ report (stopOf stop) .kind) × (now (answer .exit) ≡ answerOf count (report (stopOf stop))) ⌝ }
 {
-    answer[0] = 0;
-    answer[1] = 0;
+    let counted = count as u32;
+    match stop {
+        Stop::Finished => write_answer(answer, 0, counted, 0, 0, 0),
+        Stop::Foreign => write_answer(answer, 1, counted, 0, 0, 0),
+        Stop::Undefined { pc, opcode } => write_answer(answer, 2, counted, 0, pc, opcode),
+        Stop::Branched => write_answer(answer, 3, counted, 0, 0, 0),
+        Stop::Hangs(place) => write_answer(answer, 4, counted, place as u32, 0, 0),
+        Stop::Refused(n) => write_answer(answer, 100 + n as u32, counted, 0, 0, 0),
+    }
+}
+
+// Writes an answer, and hands its kind back.
+fn write_answer(
+    answer: &mut [u32],
+    kind: u32,
+    count: u32,
+    place: u32,
+    address: u32,
+    word: u32,
+) -> u32
+    requires { ⌜ length (now answer) ≡ 4 ⌝ }
+    ensures { λ r. ⌜ (r ≡ kind) × (now (answer .exit) ≡ count ∷ place ∷ address ∷ word ∷ []) ⌝ }
+{
+    answer[0] = count;
+    answer[1] = place;
     answer[2] = address;
     answer[3] = word;
     kind
@@ -187,6 +213,29 @@ pub extern "C" fn fpu_coprocessor_load_store(
     let exit = done.exit;
     pack(done.machine, state);
     tell(exit, answer)
+}
+
+// The plain run of a list of words.
+#[no_mangle]
+pub extern "C" fn fpu_run(
+    state: &mut [u32],
+    window: &mut [u32],
+    base: u32,
+    thumb: u32,
+    list: &[u32],
+    answer: &mut [u32],
+) -> u32
+    ensures { λ r. ⌜ left r (now (state .exit)) (now (window .exit)) (now (answer .exit)) ≡ ran (runReply base (now (list .entry))) (now (state .entry)) (now (window .entry)) thumb (now (answer .entry)) ⌝ }
+{
+    if !is_usable(state, thumb, answer.len()) {
+        return USELESS;
+    }
+    let machine = unpack(state, thumb == 1);
+    let done = run::run(machine, window, base, list);
+    let stop = done.stop;
+    let count = done.count;
+    pack(done.machine, state);
+    tell_stop(stop, count, answer)
 }
 
 // Whether an instruction of a condition, in its low four bits, is executed under the flags of place 51.

@@ -1,0 +1,209 @@
+-- The counts and the places of runs fit in a word.
+use Prim.Native.Nat.{ℕ, suc, _+_, _^_, _<_, _≤_}
+use native.Mathlib.Omega.{arith}
+use mathlib.Core.Path.{_≡_, refl, sym, subst}
+use mathlib.Core.Bool.{Bool, true, false, cond}
+use mathlib.Core.List.{List, [], _∷_}
+use lib.Dec.{eqb, ltb}
+use lib.Ieee.{Format, binary32, binary64}
+use lib.ListN.{length}
+use borrow.Author.Tests.{eqb-true, ltb-false}
+use Rattle.bits.specs.Field.{field, bitOf}
+use Rattle.bits.specs.Psr.{holds, psrOf}
+use Rattle.machine.specs.Place.{State, before, get, number}
+use Rattle.meaning.specs.Map.{Map, known}
+use Rattle.meaning.specs.Step.{step, nothing}
+use Rattle.meaning.specs.Stop.{Stop, foreign, Report, report, hangs, refused}
+use Rattle.meaning.specs.Tree.{Tree, stop, go, branch, ask, Next, on, last, halt, exitOf, plain, seen, pickSeen, watched}
+use Rattle.processing.specs.Operation.{Operation, operationOf, fmac, fnmac, fmsc, fnmsc, fmul, fnmul, fadd, fsub, fdiv, fcpy, fabs, fneg, fsqrt, fcmp, fcmpe, fcmpz, fcmpez, fcvt, fuito, fsito, ftoui, ftouiz, ftosi, ftosiz, undefined}
+use Rattle.processing.specs.Data.{operationTree, dataTree, undefinedTree}
+use Rattle.transfers.specs.Transfer.{transferTree, systemTree, singleTree}
+use Rattle.memory.specs.LoadStore.{accessTree, loadStoreTree}
+use Rattle.run.specs.Limit.{runLimit, mostList}
+use Rattle.run.specs.Word.{foreignWord, classTree, conditioned, meaning}
+use Rattle.run.specs.declared.Ran.{Ran}
+use Rattle.run.specs.Run as Run
+use Rattle.meaning.specs.Run as R
+
+-- ---- the places that a word asks for
+
+abbrev Fine : Stop → Type 0
+Fine s = report s .place < before
+
+-- every place that a tree asks for stands before the window, and no leaf hangs by itself
+unfoldable Near : Tree → Type 0
+Near (stop s) = Fine s
+Near (go a) = _≡_ {A = ℕ} 0 0
+Near (branch a) = _≡_ {A = ℕ} 0 0
+Near (ask p k) = (number p < before) × ((v : ℕ) → Near (k v))
+
+either : (b : Bool) (t u : Tree) → Near t → Near u → Near (cond b t u)
+either true t u p q = p
+either false t u p q = q
+
+near-operation : (thumb : Bool) (f : Format) (w : ℕ) (o : Operation) → Near (operationTree thumb f w o)
+unfolding Near operationTree
+near-operation thumb f w fmac = (omega arith, λ v. refl)
+near-operation thumb f w fnmac = (omega arith, λ v. refl)
+near-operation thumb f w fmsc = (omega arith, λ v. refl)
+near-operation thumb f w fnmsc = (omega arith, λ v. refl)
+near-operation thumb f w fmul = (omega arith, λ v. refl)
+near-operation thumb f w fnmul = (omega arith, λ v. refl)
+near-operation thumb f w fadd = (omega arith, λ v. refl)
+near-operation thumb f w fsub = (omega arith, λ v. refl)
+near-operation thumb f w fdiv = (omega arith, λ v. refl)
+near-operation thumb f w fcpy = (omega arith, λ v. refl)
+near-operation thumb f w fabs = (omega arith, λ v. refl)
+near-operation thumb f w fneg = (omega arith, λ v. refl)
+near-operation thumb f w fsqrt = (omega arith, λ v. refl)
+near-operation thumb f w fcmp = refl
+near-operation thumb f w fcmpe = refl
+near-operation thumb f w fcmpz = refl
+near-operation thumb f w fcmpez = refl
+near-operation thumb f w fcvt = refl
+near-operation thumb f w fuito = refl
+near-operation thumb f w fsito = refl
+near-operation thumb f w ftoui = refl
+near-operation thumb f w ftouiz = refl
+near-operation thumb f w ftosi = refl
+near-operation thumb f w ftosiz = refl
+near-operation thumb f w undefined = (omega arith, λ v. omega arith)
+
+near-undefined : (thumb : Bool) (w : ℕ) → Near (undefinedTree thumb w)
+unfolding Near
+near-undefined thumb w = (omega arith, λ v. omega arith)
+
+near-data : (thumb : Bool) (w : ℕ) → Near (dataTree thumb w)
+unfolding dataTree
+near-data thumb w =
+    either (eqb (field w 8 11) 10) _ _ (near-operation thumb binary32 w (operationOf w))
+    (either (eqb (field w 8 11) 11) _ _ (near-operation thumb binary64 w (operationOf w)) (near-undefined thumb w))
+
+near-system : (w : ℕ) → Near (systemTree w)
+unfolding Near
+near-system w = either (bitOf w 20) _ _ (either (eqb (field w 12 15) 15) _ _ refl refl) refl
+
+near-single : (thumb : Bool) (w : ℕ) → Near (singleTree thumb w)
+unfolding Near
+near-single thumb w = either (bitOf w 20) _ _ (either (eqb (field w 12 15) 15) _ _ refl refl) refl
+
+near-nothing : Near (go nothing)
+unfolding Near
+near-nothing = refl
+
+near-transfer : (thumb : Bool) (w : ℕ) → Near (transferTree thumb w)
+unfolding transferTree
+near-transfer thumb w = either (eqb (field w 21 23) 7) _ _ (near-system w) (either (eqb (field w 21 23) 0) _ _ (near-single thumb w) near-nothing)
+
+near-access : (f : Format) (base w : ℕ) → Near (accessTree f base w)
+unfolding accessTree Near
+near-access f base w = either (eqb (field w 21 27) 0b110_0010) _ _ refl (omega arith, λ v. refl)
+
+near-load-store : (base w : ℕ) → Near (loadStoreTree base w)
+unfolding loadStoreTree
+near-load-store base w = either (eqb (field w 8 11) 10) _ _ (near-access binary32 base w) (either (eqb (field w 8 11) 11) _ _ (near-access binary64 base w) near-nothing)
+
+near-class : (base w : ℕ) → Near (classTree base w)
+unfolding classTree
+near-class base w = either (eqb (field w 25 27) 0b110) _ _ (near-load-store base w) (either (bitOf w 4) _ _ (near-transfer false w) (near-data false w))
+
+near-conditioned : (c : ℕ) (t : Tree) → Near t → Near (conditioned c t)
+unfolding conditioned Near
+near-conditioned c t h = either (eqb c 14) t _ h (omega arith, λ f. either (holds c (psrOf f)) t (go nothing) h refl)
+
+near-foreign : Near (stop foreign)
+unfolding Near
+near-foreign = omega arith
+
+near-meaning : (base w : ℕ) → Near (meaning base w)
+unfolding meaning
+near-meaning base w = either (foreignWord w) _ _ near-foreign (near-conditioned (field w 28 31) (classTree base w) (near-class base w))
+
+-- ---- the stops and the counts of runs
+
+plain-fine : (t : Tree) (st : State) → Near t → Fine (exitOf (plain t st .next))
+unfolding Near plain
+plain-fine (stop s) st h = h
+plain-fine (go a) st h = omega arith
+plain-fine (branch a) st h = omega arith
+plain-fine (ask p k) st h = plain-fine (k (get st p)) st (h .1 (get st p))
+
+watched-fine : (t : Tree) (st : State) (μ : Map) → Near t → Fine (exitOf (watched t st μ .next))
+unfolding Near watched
+watched-fine (stop s) st μ h = h
+watched-fine (go a) st μ h = omega arith
+watched-fine (branch a) st μ h = omega arith
+watched-fine (ask p k) st μ h = by (watched-fine (k (get st p)) st μ (h .1 (get st p))) (known μ p)
+  where
+    by : Fine (exitOf (watched (k (get st p)) st μ .next)) → (b : Bool)
+        → Fine (exitOf (pickSeen b (watched (k (get st p)) st μ) (seen st μ (halt (hangs (number p)))) .next))
+    by ih true = ih
+    by ih false = h .0
+
+-- a stop whose place stands before the window, and a count of at most k words
+abbrev Bounded : ℕ → Stop → ℕ → Type 0
+Bounded k s count = Fine s × (count ≤ k)
+
+module _ (M : ℕ → Tree) (near : (w : ℕ) → Near (M w)) where
+  followed : (x : Next) (st : State) (n k : ℕ) (more : R.Ended) → Fine (exitOf x) → Bounded (suc n + k) (more .stop) (more .count)
+      → Bounded (n + suc k) (R.follow x st n more .stop) (R.follow x st n more .count)
+  unfolding R.follow
+  followed on st n k more f b = (b .0, omega (arith, b .1))
+  followed last st n k more f b = (f, omega arith)
+  followed (halt s) st n k more f b = (f, omega arith)
+
+  run-bounded : (ws : List ℕ) (n : ℕ) (st : State) → Bounded (n + length ws) (R.run M ws n st .stop) (R.run M ws n st .count)
+  unfolding R.run
+  run-bounded [] n st = (omega arith, omega arith)
+  run-bounded (w ∷ ws) n st =
+      let o = plain (M w) st in
+      followed (o .next) (o .st) n (length ws) (R.run M ws (suc n) (step R.advance (o .st))) (plain-fine (M w) st (near w))
+      (run-bounded ws (suc n) (step R.advance (o .st)))
+
+  followed-with : (x : Next) (st : State) (μ : Map) (n k : ℕ) (more : R.Watched) → Fine (exitOf x) → Bounded (suc n + k) (more .stop) (more .count)
+      → Bounded (n + suc k) (R.followWith x st μ n more .stop) (R.followWith x st μ n more .count)
+  unfolding R.followWith
+  followed-with on st μ n k more f b = (b .0, omega (arith, b .1))
+  followed-with last st μ n k more f b = (f, omega arith)
+  followed-with (halt s) st μ n k more f b = (f, omega arith)
+
+  watch-bounded : (ws : List ℕ) (n : ℕ) (st : State) (μ : Map) → Bounded (n + length ws) (R.watch M ws n st μ .stop) (R.watch M ws n st μ .count)
+  unfolding R.watch
+  watch-bounded [] n st μ = (omega arith, omega arith)
+  watch-bounded (w ∷ ws) n st μ =
+      let o = watched (M w) st μ in
+      followed-with (o .next) (o .st) (o .map) n (length ws) (R.watch M ws (suc n) (step R.advance (o .st)) (o .map)) (watched-fine (M w) st μ (near w))
+      (watch-bounded ws (suc n) (step R.advance (o .st)) (o .map))
+
+-- ---- of replies
+
+list-within : (list base words : ℕ) (thumb : Bool) → runLimit list base words thumb ≡ 0 → list ≤ mostList
+unfolding runLimit
+list-within list base words thumb e = by (ltb mostList list) _ refl e
+  where
+    by : (b : Bool) (x : ℕ) → ltb mostList list ≡ b → cond b 1 x ≡ 0 → list ≤ mostList
+    by true x f g = let one : _≡_ {A = ℕ} 1 0 = g in absurd (omega (arith, one))
+    by false x f g = ltb-false mostList list f
+
+-- what fits in a word
+abbrev pub Fits : Report → ℕ → Type 0
+Fits says count = (count < 2 ^ 32) × (says .place < 2 ^ 32)
+
+run-fits : (base : ℕ) (list : List ℕ) (st : State) → Fits (Run.runReply base list st .says) (Run.runReply base list st .count)
+run-fits base list st = by (eqb n 0) refl
+  where
+    n : ℕ
+    n = runLimit (length list) base (length (st .window)) (st .machine .thumb)
+
+    y : Bool → Run.Reply
+    y b = Run.pickReply b (Run.reply (R.run (meaning base) list 0 st)) (record { says = report (refused n); count = 0; leaves = st })
+
+    by : (b : Bool) → eqb n 0 ≡ b → Fits (y b .says) (y b .count)
+    by true e =
+        let b = run-bounded (meaning base) (near-meaning base) list 0 st in
+        let l = list-within (length list) base (length (st .window)) (st .machine .thumb) (eqb-true n 0 e) in
+        (omega (arith, b .1, l), omega (arith, b .0))
+    by false e = (omega arith, omega arith)
+
+pub ran-fits : (base : ℕ) (list : List ℕ) (st : State) (x : Ran) (w : List ℕ) → Run.answered x w ≡ Run.runReply base list st → Fits (report (Run.stopOf (x .stop))) (x .count)
+ran-fits base list st x w e = subst (λ (y : Run.Reply). Fits (y .says) (y .count)) (sym e) (run-fits base list st)
