@@ -1,0 +1,45 @@
+-- Document 01's watch: a new machine, no window, s0 alone unknown.
+use Prim.Native.Nat.{ℕ}
+use mathlib.Core.Path.{_≡_, refl}
+use mathlib.Core.Bool.{true, false}
+use mathlib.Core.List.{List, [], _∷_}
+use lib.ListN.{replicate}
+use Rattle.machine.specs.Machine.{newMachine}
+use Rattle.machine.specs.Place.{place, state}
+use Rattle.meaning.specs.Map.{Map, mapOf, mark}
+use Rattle.meaning.specs.Run as R
+use Rattle.meaning.specs.Step.{after, afterMarks}
+use Rattle.meaning.specs.Stop.{report, hangs}
+use Rattle.meaning.specs.Tree.{watched}
+use Rattle.processing.specs.Data.{operationTree, dataTree}
+use Rattle.processing.specs.Operation.{extensionBy, arithmetics, operationBy, operationOf, operationAt}
+use Rattle.processing.specs.Vector.{stepOf, secondOf}
+use Rattle.run.specs.Limit.{runLimit}
+use Rattle.run.specs.Word.{classTree, conditioned, meaning}
+use Rattle.transfers.specs.Transfer.{transferTree}
+use Rattle.vfp.specs.Limit.{windowLimit}
+use Rattle.watch.specs.Limit.{bitsOnly, watchLimit}
+use Rattle.watch.specs.Watch.{Reply, watchReply}
+
+-- with no window: all known, and with the places of a list unknown
+abbrev pub allKnown : Map
+allKnown = mapOf (record { s = replicate 32 true; r = replicate 16 true; flags = true; control = true; exc = true; nzcv = true }) []
+
+abbrev pub allBut : List ℕ → Map
+allBut [] = allKnown
+allBut (n ∷ ns) = mark (allBut ns) (place n) false
+
+abbrev pub words : List ℕ
+words = 0xEE30_0A00 ∷ 0xEEB5_0A40 ∷ 0xEEF1_FA10 ∷ 0x0E30_0A00 ∷ []
+
+abbrev pub answer : Reply
+answer = watchReply 0 words (state newMachine []) (allBut (0 ∷ []))
+
+pub record Claim : Type 0 where
+  pub stops : answer .says ≡ report (hangs 51)
+  pub counts : answer .count ≡ 3
+  pub marks : answer .map ≡ allBut (0 ∷ 48 ∷ 51 ∷ [])
+
+pub claim : Claim
+unfolding watchReply watchLimit bitsOnly runLimit windowLimit R.watch R.followWith watched meaning classTree conditioned dataTree operationTree operationOf operationBy extensionBy arithmetics operationAt transferTree after afterMarks stepOf secondOf place
+claim = record { stops = refl; counts = refl; marks = refl }

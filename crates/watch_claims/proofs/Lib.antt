@@ -1,0 +1,3 @@
+-- Theorems about the definition of the watched run.
+
+pub mod Example
