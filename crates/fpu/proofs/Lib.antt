@@ -3,3 +3,5 @@ pub mod Calls
 pub mod Spelling
 pub mod Bounds
 pub mod Runs
+pub mod Marked
+pub mod Watches
