@@ -5,3 +5,4 @@ pub mod Bounds
 pub mod Runs
 pub mod Marked
 pub mod Watches
+pub mod Marking
