@@ -14,8 +14,9 @@
 extern "C" {
 #endif
 
-/* Lengths, in words. */
+/* Lengths, in words; of marks in bytes. */
 #define FPU_STATE_WORDS 52
+#define FPU_MARKS_BYTES 52
 #define FPU_ANSWER_WORDS 4
 #define FPU_WINDOW_MOST_WORDS 16384
 #define FPU_LIST_MOST_WORDS 4096
@@ -46,9 +47,11 @@ extern "C" {
 #define FPU_REFUSED_BASE_ALIGNMENT 103   /* the base is no multiple of 4 */
 #define FPU_REFUSED_WINDOW_END 104       /* base + 4 * words exceeds 2^32 */
 #define FPU_REFUSED_THUMB 105            /* of runs only: thumb is 1 */
+#define FPU_REFUSED_WINDOW_MARKS 106     /* of the watched run only: not as many window marks as window words */
+#define FPU_REFUSED_WINDOW_MARK 107      /* of the watched run only: a window mark that is neither 0 nor 1 */
 
-/* Tested first, touching nothing: a state or an answer of another length, a bit of the state outside a place's own, a thumb
- * that is neither 0 nor 1. */
+/* Tested first, touching nothing: a state, marks or an answer of another length, a bit of the state outside a place's own, a mark of
+ * places 0 to 51 or a thumb that is neither 0 nor 1. */
 #define FPU_USELESS 255
 
 /* Makes the state a new machine's: all zero but FPEXC, 0x40000000. Gives FPU_FINISHED, or FPU_USELESS where it has not 52 words. */
@@ -72,6 +75,14 @@ uint32_t fpu_coprocessor_load_store(uint32_t *state, size_t state_words, uint32_
  * refusals 101 to 105, the first that applies. */
 uint32_t fpu_run(uint32_t *state, size_t state_words, uint32_t *window, size_t window_words, uint32_t base, uint32_t thumb,
                  const uint32_t *list, size_t list_words, uint32_t *answer, size_t answer_words);
+
+/* The same run, watched: `marks` says of each of the places 0 to 51 in order, and `window_marks` of each word of the window, whether
+ * it is known (1) or not (0). It gives FPU_HANGS, with the place, before a word whose outcome would hang on an unknown place, and
+ * leaves the marks that hold at its end. No unknown place can show in the result, the answer, the marks, or a place that is known at
+ * the end. Else it gives what fpu_run gives, or refusal 106 or 107. */
+uint32_t fpu_watch(uint32_t *state, size_t state_words, uint8_t *marks, size_t marks_bytes, uint32_t *window, size_t window_words,
+                   uint8_t *window_marks, size_t window_marks_bytes, uint32_t base, uint32_t thumb, const uint32_t *list,
+                   size_t list_words, uint32_t *answer, size_t answer_words);
 
 /* Whether an instruction of a condition (its low four bits) is executed under the flags of place 51: 1 or 0, or FPU_USELESS where
  * another bit of nzcv is set. */

@@ -3,6 +3,7 @@
 use std::os::raw::c_uint;
 
 pub const STATE_WORDS: usize = 52;
+pub const MARKS_BYTES: usize = 52;
 pub const ANSWER_WORDS: usize = 4;
 
 extern "C" {
@@ -25,6 +26,22 @@ extern "C" {
         state_words: usize,
         window: *mut u32,
         window_words: usize,
+        base: u32,
+        thumb: u32,
+        list: *const u32,
+        list_words: usize,
+        answer: *mut u32,
+        answer_words: usize,
+    ) -> c_uint;
+    fn fpu_watch(
+        state: *mut u32,
+        state_words: usize,
+        marks: *mut u8,
+        marks_bytes: usize,
+        window: *mut u32,
+        window_words: usize,
+        window_marks: *mut u8,
+        window_marks_bytes: usize,
         base: u32,
         thumb: u32,
         list: *const u32,
@@ -82,6 +99,37 @@ pub mod raw {
         }
     }
 
+    #[allow(clippy::too_many_arguments)]
+    pub fn watch(
+        state: &mut [u32],
+        marks: &mut [u8],
+        window: &mut [u32],
+        window_marks: &mut [u8],
+        base: u32,
+        thumb: u32,
+        list: &[u32],
+        answer: &mut [u32],
+    ) -> u32 {
+        unsafe {
+            super::fpu_watch(
+                state.as_mut_ptr(),
+                state.len(),
+                marks.as_mut_ptr(),
+                marks.len(),
+                window.as_mut_ptr(),
+                window.len(),
+                window_marks.as_mut_ptr(),
+                window_marks.len(),
+                base,
+                thumb,
+                list.as_ptr(),
+                list.len(),
+                answer.as_mut_ptr(),
+                answer.len(),
+            )
+        }
+    }
+
     pub fn check_condition(condition: u32, nzcv: u32) -> u32 {
         unsafe { super::fpu_check_condition(condition, nzcv) }
     }
@@ -96,7 +144,25 @@ pub enum Exit {
     Refused(u8),
 }
 
-/// A state with a bit outside a place's own: nothing was done.
+/// Why a run stopped.
+#[derive(Clone, Copy, PartialEq, Eq, Debug)]
+pub enum Stop {
+    Finished,
+    Foreign,
+    Undefined { address: u32, word: u32 },
+    Branched,
+    Hangs(u32),
+    Refused(u8),
+}
+
+/// A stop, and how many words were counted.
+#[derive(Clone, Copy, PartialEq, Eq, Debug)]
+pub struct Ran {
+    pub stop: Stop,
+    pub count: u32,
+}
+
+/// A state with a bit outside a place's own, or a mark that is neither 0 nor 1: nothing was done.
 #[derive(Clone, Copy, PartialEq, Eq, Debug)]
 pub struct NoMachine;
 
@@ -124,6 +190,20 @@ fn exit(kind: u32, answer: [u32; ANSWER_WORDS]) -> Result<Exit, NoMachine> {
     }
 }
 
+fn ran(kind: u32, answer: [u32; ANSWER_WORDS]) -> Result<Ran, NoMachine> {
+    let stop = match kind {
+        0 => Stop::Finished,
+        1 => Stop::Foreign,
+        2 => Stop::Undefined { address: answer[2], word: answer[3] },
+        3 => Stop::Branched,
+        4 => Stop::Hangs(answer[1]),
+        101..=107 => Stop::Refused((kind - 100) as u8),
+        255 => return Err(NoMachine),
+        _ => unreachable!("kind {kind}"),
+    };
+    Ok(Ran { stop, count: answer[0] })
+}
+
 impl Machine {
     /// in ARM state.
     pub fn new() -> Machine {
@@ -145,6 +225,24 @@ impl Machine {
     pub fn coprocessor_load_store(&mut self, window: &mut [u32], base: u32, word: u32) -> Result<Exit, NoMachine> {
         let mut answer = [0; ANSWER_WORDS];
         exit(raw::coprocessor_load_store(&mut self.state, window, base, self.thumb as u32, word, &mut answer), answer)
+    }
+
+    pub fn run(&mut self, window: &mut [u32], base: u32, list: &[u32]) -> Result<Ran, NoMachine> {
+        let mut answer = [0; ANSWER_WORDS];
+        ran(raw::run(&mut self.state, window, base, self.thumb as u32, list, &mut answer), answer)
+    }
+
+    /// marks are 1 where a place, or a word of the window, is known, and else 0.
+    pub fn watch(
+        &mut self,
+        marks: &mut [u8; MARKS_BYTES],
+        window: &mut [u32],
+        window_marks: &mut [u8],
+        base: u32,
+        list: &[u32],
+    ) -> Result<Ran, NoMachine> {
+        let mut answer = [0; ANSWER_WORDS];
+        ran(raw::watch(&mut self.state, marks, window, window_marks, base, self.thumb as u32, list, &mut answer), answer)
     }
 
     /// whether an instruction of this condition, in its low four bits, is executed.

@@ -1,6 +1,6 @@
 //! A few calls by the wrapper, and what 255 does.
 
-use fpu::{raw, Exit, Machine, NoMachine};
+use fpu::{raw, Exit, Machine, NoMachine, Ran, Stop};
 
 #[test]
 fn a_new_machine() {
@@ -87,4 +87,38 @@ fn conditions() {
     assert_eq!((m.check_condition(0), m.check_condition(1)), (Ok(true), Ok(false)));
     m.state[51] |= 1;
     assert_eq!(m.check_condition(0), Err(NoMachine));
+}
+
+// a sum, its compare with zero, the flags to NZCV, and a sum where they are equal
+const LIST: [u32; 4] = [0xEE30_0A00, 0xEEB5_0A40, 0xEEF1_FA10, 0x0E30_0A00];
+
+#[test]
+fn a_run() {
+    let mut m = Machine::new();
+    assert_eq!(m.run(&mut [], 0, &LIST), Ok(Ran { stop: Stop::Finished, count: 4 }));
+    assert_eq!((m.state[47], m.state[51]), (16, 0x6000_0000));
+    let before = m;
+    assert_eq!(m.run(&mut [], 0, &[LIST[0], 0xE3A0_0000]), Ok(Ran { stop: Stop::Foreign, count: 1 }));
+    m = before;
+    assert_eq!(m.run(&mut [], 1, &vec![LIST[0]; 4097]), Ok(Ran { stop: Stop::Refused(1), count: 0 }));
+    m.thumb = true;
+    assert_eq!(m.run(&mut [], 0, &LIST), Ok(Ran { stop: Stop::Refused(5), count: 0 }));
+    assert_eq!(m.state, before.state);
+}
+
+#[test]
+fn a_watched_run() {
+    let mut m = Machine::new();
+    let mut marks = [1; 52];
+    marks[0] = 0;
+    assert_eq!(m.watch(&mut marks, &mut [], &mut [], 0, &LIST), Ok(Ran { stop: Stop::Hangs(51), count: 3 }));
+    assert!(marks.iter().enumerate().all(|(i, &k)| (k == 0) == [0, 48, 51].contains(&i)));
+    assert_eq!(m.state[47], 12);
+    let (before, kept) = (m, marks);
+    assert_eq!(m.watch(&mut marks, &mut [5], &mut [], 0, &LIST), Ok(Ran { stop: Stop::Refused(6), count: 0 }));
+    assert_eq!(m.watch(&mut marks, &mut [5], &mut [2], 0, &LIST), Ok(Ran { stop: Stop::Refused(7), count: 0 }));
+    assert_eq!((m, marks), (before, kept));
+    marks[3] = 2;
+    assert_eq!(m.watch(&mut marks, &mut [5], &mut [2], 0, &LIST), Err(NoMachine));
+    assert_eq!((m, marks[3]), (before, 2));
 }

@@ -22,7 +22,11 @@ use Rattle.memory.specs.LoadStore.{accessTree, loadStoreTree}
 use Rattle.run.specs.Limit.{runLimit, mostList}
 use Rattle.run.specs.Word.{foreignWord, classTree, conditioned, meaning}
 use Rattle.run.specs.declared.Ran.{Ran}
+use Rattle.watch.specs.declared.Watched.{Watched}
+use Rattle.watch.specs.Watch.{limitOf, watchReply}
+use Rattle.watch.proofs.Limits.{run-within}
 use Rattle.run.specs.Run as Run
+use Rattle.watch.specs.Watch as Watch
 use Rattle.meaning.specs.Run as R
 
 -- ---- the places that a word asks for
@@ -207,3 +211,24 @@ run-fits base list st = by (eqb n 0) refl
 
 pub ran-fits : (base : ℕ) (list : List ℕ) (st : State) (x : Ran) (w : List ℕ) → Run.answered x w ≡ Run.runReply base list st → Fits (report (Run.stopOf (x .stop))) (x .count)
 ran-fits base list st x w e = subst (λ (y : Run.Reply). Fits (y .says) (y .count)) (sym e) (run-fits base list st)
+
+watch-fits : (base : ℕ) (list : List ℕ) (st : State) (μ : Map) → Fits (watchReply base list st μ .says) (watchReply base list st μ .count)
+unfolding watchReply
+watch-fits base list st μ = by (eqb n 0) refl
+  where
+    n : ℕ
+    n = limitOf base list st μ
+
+    y : Bool → Watch.Reply
+    y b = Watch.pickReply b (Watch.reply (R.watch (meaning base) list 0 st μ)) (record { says = report (refused n); count = 0; leaves = st; map = μ })
+
+    by : (b : Bool) → eqb n 0 ≡ b → Fits (y b .says) (y b .count)
+    by true e =
+        let b = watch-bounded (meaning base) (near-meaning base) list 0 st μ in
+        let l = list-within (length list) base (length (st .window)) (st .machine .thumb) (run-within (length list) base (length (st .window)) (st .machine .thumb) (μ .words) (eqb-true n 0 e)) in
+        (omega (arith, b .1, l), omega (arith, b .0))
+    by false e = (omega arith, omega arith)
+
+pub watched-fits : (base : ℕ) (list : List ℕ) (st : State) (μ : Map) (x : Watched) (w v : List ℕ) → Watch.answered x w v ≡ watchReply base list st μ
+    → Fits (report (Run.stopOf (x .stop))) (x .count)
+watched-fits base list st μ x w v e = subst (λ (y : Watch.Reply). Fits (y .says) (y .count)) (sym e) (watch-fits base list st μ)

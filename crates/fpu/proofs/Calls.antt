@@ -15,11 +15,11 @@ use Rattle.fpu.specs.Spelling.{spelling, spelled, spells, Spells}
 use Rattle.fpu.specs.Left.{left, answerOf, useless, usable, called}
 
 -- of two tests that hold, each does
-fst : (a b : Bool) → a && b ≡ true → a ≡ true
+pub fst : (a b : Bool) → a && b ≡ true → a ≡ true
 fst true b e = refl
 fst false b e = e
 
-snd : (a b : Bool) → a && b ≡ true → b ≡ true
+pub snd : (a b : Bool) → a && b ≡ true → b ≡ true
 snd true b e = e
 snd false b e = let z : _≡_ {A = ℕ} 0 1 = cc in absurd (omega arith)
 

@@ -1,3 +1,5 @@
 -- What the exported functions promise.
 pub mod Spelling
 pub mod Left
+pub mod Marking
+pub mod Observed

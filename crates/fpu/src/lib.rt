@@ -12,10 +12,15 @@ ghost use Rattle.vfp.specs.Call.{exitReport, reply, loadStoreReply};
 ghost use Rattle.run.specs.Run.{stopOf, runReply};
 ghost use Rattle.fpu.specs.Spelling.{spelling, spelled, spells, Spells};
 ghost use Rattle.fpu.specs.Left.{left, called, ran, usable, answerOf, renewed, checked};
+ghost use Rattle.bits.specs.Psr.{oneOf};
+ghost use Rattle.fpu.specs.Marking.{marking, marked};
+ghost use Rattle.fpu.specs.Observed.{observed, watchable, Kept};
 use bits::psr::Psr;
 use machine::Machine;
+use meaning::Marks;
 use run::Stop;
 use vfp::Exit;
+use watch::limit::bits_only;
 
 // Nothing was touched: a length, a bit of the state or thumb is not as it has to be.
 const USELESS: u32 = 255;
@@ -64,6 +69,57 @@ pub fn pack(machine: Machine, state: &mut [u32])
     state[51] = Psr::to_bits(cpsr);
 }
 
+// The marks that bytes spell.
+pub fn unpack_marks(bytes: &[u8]) -> Marks
+    requires { ⌜ length (now bytes) ≡ 52 ⌝ }
+    ensures { λ k. ⌜ k ≡ marked (now (bytes .entry)) ⌝ }
+{
+    let mut s = [false; 32];
+    for i in 0..32 {
+        s[i] = bytes[i] == 1;
+    }
+    let mut r = [false; 16];
+    for i in 0..16 {
+        r[i] = bytes[32 + i] == 1;
+    }
+    Marks {
+        s,
+        r,
+        flags: bytes[48] == 1,
+        control: bytes[49] == 1,
+        exc: bytes[50] == 1,
+        nzcv: bytes[51] == 1,
+    }
+}
+
+// The bytes of marks.
+pub fn pack_marks(marks: Marks, bytes: &mut [u8])
+    requires { ⌜ length (now bytes) ≡ 52 ⌝ }
+    ensures { λ _. ⌜ now (bytes .exit) ≡ marking marks ⌝ }
+{
+    let s = marks.s;
+    for i in 0..32 {
+        bytes[i] = mark_byte(s[i]);
+    }
+    let r = marks.r;
+    for i in 0..16 {
+        bytes[32 + i] = mark_byte(r[i]);
+    }
+    bytes[48] = mark_byte(marks.flags);
+    bytes[49] = mark_byte(marks.control);
+    bytes[50] = mark_byte(marks.exc);
+    bytes[51] = mark_byte(marks.nzcv);
+}
+
+fn mark_byte(known: bool) -> u8
+    ensures { λ r. ⌜ r ≡ oneOf known ⌝ }
+{
+    if known {
+        return 1;
+    }
+    0
+}
+
 // Whether words spell a machine.
 pub fn spells_machine(state: &[u32]) -> bool
     ensures { λ r. ⌜ r ≡ spells (now (state .entry)) ⌝ }
@@ -91,6 +147,19 @@ fn is_usable(state: &[u32], thumb: u32, words: usize) -> bool
         return false;
     }
     spells_machine(state)
+}
+
+// And with marks.
+fn is_watchable(state: &[u32], marks: &[u8], thumb: u32, words: usize) -> bool
+    ensures { λ r. ⌜ r ≡ watchable (now (state .entry)) (now (marks .entry)) thumb words ⌝ }
+{
+    if marks.len() != 52 {
+        return false;
+    }
+    if !bits_only(marks) {
+        return false;
+    }
+    is_usable(state, thumb, words)
 }
 
 // The kind of an exit; the values that it has go into the answer.
@@ -235,6 +304,34 @@ pub extern "C" fn fpu_run(
     let stop = done.stop;
     let count = done.count;
     pack(done.machine, state);
+    tell_stop(stop, count, answer)
+}
+
+// The watched run of a list of words.
+#[no_mangle]
+pub extern "C" fn fpu_watch(
+    state: &mut [u32],
+    marks: &mut [u8],
+    window: &mut [u32],
+    window_marks: &mut [u8],
+    base: u32,
+    thumb: u32,
+    list: &[u32],
+    answer: &mut [u32],
+) -> u32
+    ensures { λ r. ⌜ Kept base (now (list .entry)) (now (state .entry)) (now (marks .entry)) (now (window .entry)) (now («window_marks» .entry)) thumb (now (answer .entry)) (observed r (now (state .exit)) (now (marks .exit)) (now (window .exit)) (now («window_marks» .exit)) (now (answer .exit))) ⌝ }
+{
+    if !is_watchable(state, marks, thumb, answer.len()) {
+        return USELESS;
+    }
+    let machine = unpack(state, thumb == 1);
+    let known = unpack_marks(marks);
+    let done = watch::watch(machine, known, window, window_marks, base, list);
+    let stop = done.stop;
+    let count = done.count;
+    let left = done.marks;
+    pack(done.machine, state);
+    pack_marks(left, marks);
     tell_stop(stop, count, answer)
 }
 

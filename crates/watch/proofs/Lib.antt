@@ -1,7 +1,7 @@
 -- Laws of the crate's proofs, and demand 3.
 
 mod Hangs
-mod Limits
+pub mod Limits
 mod Worded
 mod Replies
 pub mod Demanded

@@ -21,7 +21,7 @@ pub fn watch_limit(list: usize, base: u32, words: usize, thumb: bool, marks: &[u
 }
 
 // Whether every mark is 0 or 1.
-fn bits_only(marks: &[u8]) -> bool
+pub fn bits_only(marks: &[u8]) -> bool
     ensures { λ b. ⌜ b ≡ bitsOnly (now (marks .entry)) ⌝ }
 {
     let mut i: usize = 0;
