@@ -1,0 +1,214 @@
+// A machine with a window of twelve words, and its map as a number of 64 bits: bit p is the mark of place p.
+use bits::psr::Psr;
+use machine::Machine;
+use meaning::Marks;
+use run::Stop;
+use watch::watch;
+
+pub struct Side {
+    pub machine: Machine,
+    pub window: [u32; 12],
+}
+
+// How a watched run ended: the stop by kind and value, the count, and what it left.
+pub struct Outcome {
+    pub kind: u64,
+    pub value: u64,
+    pub count: u64,
+    pub side: Side,
+    pub known: u64,
+}
+
+// Where the window starts.
+pub fn base() -> u32 {
+    0x1000
+}
+
+pub fn at(k: u64, p: usize) -> bool {
+    (k >> (p % 64)) % 2 == 1
+}
+
+pub fn place(p: usize) -> u64 {
+    1 << (p % 64)
+}
+
+fn with(k: u64, p: usize, b: bool) -> u64 {
+    if b {
+        return k | place(p);
+    }
+    k
+}
+
+fn singles_of(k: u64) -> [bool; 32] {
+    let mut s = [false; 32];
+    for i in 0..32 {
+        s[i] = at(k, i);
+    }
+    s
+}
+
+fn cores_of(k: u64) -> [bool; 16] {
+    let mut r = [false; 16];
+    for i in 0..16 {
+        r[i] = at(k, 32 + i);
+    }
+    r
+}
+
+fn byte_of(b: bool) -> u8 {
+    if b { 1 } else { 0 }
+}
+
+fn words_of(k: u64) -> [u8; 12] {
+    let mut w = [0; 12];
+    for i in 0..12 {
+        w[i] = byte_of(at(k, 52 + i));
+    }
+    w
+}
+
+fn marks_of(k: u64) -> Marks {
+    let s = singles_of(k);
+    let r = cores_of(k);
+    Marks {
+        s,
+        r,
+        flags: at(k, 48),
+        control: at(k, 49),
+        exc: at(k, 50),
+        nzcv: at(k, 51),
+    }
+}
+
+fn add_singles(k: u64, s: [bool; 32]) -> u64 {
+    let mut x = k;
+    for i in 0..32 {
+        x = with(x, i, s[i]);
+    }
+    x
+}
+
+fn add_cores(k: u64, r: [bool; 16]) -> u64 {
+    let mut x = k;
+    for i in 0..16 {
+        x = with(x, 32 + i, r[i]);
+    }
+    x
+}
+
+fn add_words(k: u64, w: [u8; 12]) -> u64 {
+    let mut x = k;
+    for i in 0..12 {
+        x = with(x, 52 + i, w[i] == 1);
+    }
+    x
+}
+
+fn map_of(m: Marks, w: [u8; 12]) -> u64 {
+    let s = m.s;
+    let r = m.r;
+    let a = add_words(add_cores(add_singles(0, s), r), w);
+    let b = with(with(a, 48, m.flags), 49, m.control);
+    with(with(b, 50, m.exc), 51, m.nzcv)
+}
+
+fn kind_of(stop: Stop) -> u64 {
+    match stop {
+        Stop::Finished => 0,
+        Stop::Foreign => 1,
+        Stop::Undefined { pc, opcode } => 2,
+        Stop::Branched => 3,
+        Stop::Hangs(p) => 4,
+        Stop::Refused(n) => 5,
+    }
+}
+
+fn joined(high: u32, low: u32) -> u64 {
+    high as u64 * 0x1_0000_0000 + low as u64
+}
+
+fn value_of(stop: Stop) -> u64 {
+    match stop {
+        Stop::Finished => 0,
+        Stop::Foreign => 0,
+        Stop::Undefined { pc, opcode } => joined(pc, opcode),
+        Stop::Branched => 0,
+        Stop::Hangs(p) => p as u64,
+        Stop::Refused(n) => n as u64,
+    }
+}
+
+pub fn watched(side: Side, k: u64, list: &[u32]) -> Outcome {
+    let machine = side.machine;
+    let known = marks_of(k);
+    let mut window = side.window;
+    let mut marks = words_of(k);
+    let a = watch(
+        machine,
+        known,
+        &mut window[..],
+        &mut marks[..],
+        base(),
+        list,
+    );
+    let stop = a.stop;
+    let left = a.machine;
+    let after = a.marks;
+    let side = Side {
+        machine: left,
+        window,
+    };
+    Outcome {
+        kind: kind_of(stop),
+        value: value_of(stop),
+        count: a.count as u64,
+        side,
+        known: map_of(after, marks),
+    }
+}
+
+fn flag(b: bool, weight: u32) -> u32 {
+    if b { weight } else { 0 }
+}
+
+fn flags_of(x: Psr) -> u32 {
+    flag(x.n, 8) | flag(x.z, 4) | flag(x.c, 2) | flag(x.v, 1)
+}
+
+// The bits that a place holds.
+pub fn bits_of(side: Side, p: usize) -> u32 {
+    let m = side.machine;
+    if p < 32 {
+        return m.s[p];
+    }
+    if p < 48 {
+        return m.r[p - 32];
+    }
+    if p < 52 {
+        return control_of(m, p);
+    }
+    side.window[(p - 52) % 12]
+}
+
+fn control_of(m: Machine, p: usize) -> u32 {
+    if p == 48 {
+        return m.fpscr / 0x1000_0000;
+    }
+    if p == 49 {
+        return m.fpscr % 0x1000_0000;
+    }
+    if p == 50 {
+        return m.fpexc;
+    }
+    let f = m.cpsr;
+    flags_of(f)
+}
+
+// Whether two sides agree in every place that a map calls known.
+pub fn agree(a: Side, b: Side, k: u64) -> bool {
+    let mut same = true;
+    for p in 0..64 {
+        same = same & (!at(k, p) | (bits_of(a, p) == bits_of(b, p)));
+    }
+    same
+}
