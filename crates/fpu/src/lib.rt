@@ -4,6 +4,7 @@ ghost use mathlib.Core.List.{List, [], _∷_};
 ghost use Prim.Native.Nat.{ℕ, _^_, _<_};
 ghost use lib.Dec.{eqb};
 ghost use lib.ListN.{length};
+ghost use Rattle.bits.specs.Psr.{oneOf};
 ghost use Rattle.machine.specs.Machine.{newMachine};
 ghost use Rattle.processing.specs.Data.{dataTree};
 ghost use Rattle.transfers.specs.Transfer.{transferTree};
@@ -12,7 +13,6 @@ ghost use Rattle.vfp.specs.Call.{exitReport, reply, loadStoreReply};
 ghost use Rattle.run.specs.Run.{stopOf, runReply};
 ghost use Rattle.fpu.specs.Spelling.{spelling, spelled, spells, Spells};
 ghost use Rattle.fpu.specs.Left.{left, called, ran, usable, answerOf, renewed, checked};
-ghost use Rattle.bits.specs.Psr.{oneOf};
 ghost use Rattle.fpu.specs.Marking.{marking, marked};
 ghost use Rattle.fpu.specs.Observed.{observed, watchable, Kept};
 use bits::psr::Psr;
@@ -22,7 +22,7 @@ use run::Stop;
 use vfp::Exit;
 use watch::limit::bits_only;
 
-// Nothing was touched: a length, a bit of the state or thumb is not as it has to be.
+// Nothing was touched: a length, a bit of the state, a mark or thumb is not as it has to be.
 const USELESS: u32 = 255;
 
 // The machine that a state spells.
