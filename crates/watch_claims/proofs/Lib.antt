@@ -1,3 +1,4 @@
 -- Theorems about the definition of the watched run.
 
 pub mod Example
+pub mod Exact

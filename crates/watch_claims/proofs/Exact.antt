@@ -1,0 +1,141 @@
+-- Exactness of the mark rules, through the definition: for each operation in both widths, and for transfers and pairs, document 01's rule gives
+-- sources for targets. With just the sources known and what the word asks for, and with any one source unknown, the map that the word leaves is
+-- the rule's, and no other mark changes.
+use Prim.Native.Nat.{ℕ}
+use mathlib.Core.Path.{_≡_, refl}
+use mathlib.Core.Bool.{Bool, true, false, cond}
+use mathlib.Core.List.{List, [], _∷_, _++_, map}
+use lib.Dec.{eqb}
+use lib.ListN.{replicate}
+use Rattle.machine.specs.Machine.{newMachine}
+use Rattle.machine.specs.Place.{place, state}
+use Rattle.meaning.specs.Map.{Map, mapOf, known, mark}
+use Rattle.meaning.specs.Step.{after, afterMarks}
+use Rattle.meaning.specs.Tree.{watched}
+use Rattle.processing.specs.Data.{operationTree, dataTree}
+use Rattle.processing.specs.Operation.{extensionBy, arithmetics, operationBy, operationOf}
+use Rattle.processing.specs.Vector.{stepOf, secondOf}
+use Rattle.memory.specs.LoadStore.{accessTree, loadStoreTree}
+use Rattle.run.specs.Word.{classTree, conditioned, meaning}
+use Rattle.transfers.specs.Transfer.{transferTree}
+
+-- places by number: the targets are known just when all the sources are
+pub record Rule : Type 0 where
+  pub sources : List ℕ
+  pub targets : List ℕ
+
+abbrev pub from : List ℕ → List ℕ → Rule
+from s t = record { sources = s; targets = t }
+
+-- a word, the places that it asks for, and its rules
+pub record Row : Type 0 where
+  pub word : ℕ
+  pub asks : List ℕ
+  pub rules : List Rule
+
+abbrev pub row : ℕ → List ℕ → List Rule → Row
+row w a r = record { word = w; asks = a; rules = r }
+
+-- ---- the rules on maps
+
+pub nothingKnown : Map
+nothingKnown = mapOf (record { s = replicate 32 false; r = replicate 16 false; flags = false; control = false; exc = false; nzcv = false }) []
+
+pub marks : List ℕ → Bool → Map → Map
+marks [] b μ = μ
+marks (p ∷ ps) b μ = marks ps b (mark μ (place p) b)
+
+pub all : Map → List ℕ → Bool
+all μ [] = true
+all μ (p ∷ ps) = cond (known μ (place p)) (all μ ps) false
+
+-- all sources are read before any target is marked
+pub ruled : Map → List Rule → Map → Map
+ruled ν [] μ = μ
+ruled ν (r ∷ rs) μ = ruled ν rs (marks (r .targets) (all ν (r .sources)) μ)
+
+-- ---- the maps that are tried: with all sources known, and with each one in turn unknown
+
+pub sourcesOf : List Rule → List ℕ
+sourcesOf [] = []
+sourcesOf (r ∷ rs) = r .sources ++ sourcesOf rs
+
+pub tried : Row → List Map
+tried x =
+    let μ = marks (x .asks ++ sourcesOf (x .rules)) true nothingKnown in
+    μ ∷ map (λ p. marks (p ∷ []) false μ) (sourcesOf (x .rules))
+
+-- what the word leaves, and what the rules say
+pub left : Row → List Map
+left x = map (λ μ. watched (meaning 0 (x .word)) (state newMachine []) μ .map) (tried x)
+
+pub should : Row → List Map
+should x = map (λ μ. ruled μ (x .rules) μ) (tried x)
+
+pub rows : List Row
+rows =
+    row 0xEE021AA3 (49 ∷ []) (from (5 ∷ 7 ∷ 2 ∷ []) (2 ∷ []) ∷ [])
+    ∷ row 0xEE021AE3 (49 ∷ []) (from (5 ∷ 7 ∷ 2 ∷ []) (2 ∷ []) ∷ [])
+    ∷ row 0xEE121AA3 (49 ∷ []) (from (5 ∷ 7 ∷ 2 ∷ []) (2 ∷ []) ∷ [])
+    ∷ row 0xEE121AE3 (49 ∷ []) (from (5 ∷ 7 ∷ 2 ∷ []) (2 ∷ []) ∷ [])
+    ∷ row 0xEE221AA3 (49 ∷ []) (from (5 ∷ 7 ∷ []) (2 ∷ []) ∷ [])
+    ∷ row 0xEE221AE3 (49 ∷ []) (from (5 ∷ 7 ∷ []) (2 ∷ []) ∷ [])
+    ∷ row 0xEE321AA3 (49 ∷ []) (from (5 ∷ 7 ∷ []) (2 ∷ []) ∷ [])
+    ∷ row 0xEE321AE3 (49 ∷ []) (from (5 ∷ 7 ∷ []) (2 ∷ []) ∷ [])
+    ∷ row 0xEE821AA3 (49 ∷ []) (from (5 ∷ 7 ∷ []) (2 ∷ []) ∷ [])
+    ∷ row 0xEEB01A63 (49 ∷ []) (from (7 ∷ []) (2 ∷ []) ∷ [])
+    ∷ row 0xEEB01AE3 (49 ∷ []) (from (7 ∷ []) (2 ∷ []) ∷ [])
+    ∷ row 0xEEB11A63 (49 ∷ []) (from (7 ∷ []) (2 ∷ []) ∷ [])
+    ∷ row 0xEEB11AE3 (49 ∷ []) (from (7 ∷ []) (2 ∷ []) ∷ [])
+    ∷ row 0xEEB41A63 ([]) (from (2 ∷ 7 ∷ []) (48 ∷ []) ∷ [])
+    ∷ row 0xEEB41AE3 ([]) (from (2 ∷ 7 ∷ []) (48 ∷ []) ∷ [])
+    ∷ row 0xEEB51A63 ([]) (from (2 ∷ []) (48 ∷ []) ∷ [])
+    ∷ row 0xEEB51AE3 ([]) (from (2 ∷ []) (48 ∷ []) ∷ [])
+    ∷ row 0xEEB71AE3 ([]) (from (7 ∷ []) (2 ∷ 3 ∷ []) ∷ [])
+    ∷ row 0xEEB81A63 ([]) (from (7 ∷ []) (2 ∷ []) ∷ [])
+    ∷ row 0xEEB81AE3 ([]) (from (7 ∷ []) (2 ∷ []) ∷ [])
+    ∷ row 0xEEBC1A63 ([]) (from (49 ∷ 7 ∷ []) (2 ∷ []) ∷ [])
+    ∷ row 0xEEBC1AE3 ([]) (from (7 ∷ []) (2 ∷ []) ∷ [])
+    ∷ row 0xEEBD1A63 ([]) (from (49 ∷ 7 ∷ []) (2 ∷ []) ∷ [])
+    ∷ row 0xEEBD1AE3 ([]) (from (7 ∷ []) (2 ∷ []) ∷ [])
+    ∷ row 0xEE021B03 (49 ∷ []) (from (4 ∷ 5 ∷ 6 ∷ 7 ∷ 2 ∷ 3 ∷ []) (2 ∷ 3 ∷ []) ∷ [])
+    ∷ row 0xEE021B43 (49 ∷ []) (from (4 ∷ 5 ∷ 6 ∷ 7 ∷ 2 ∷ 3 ∷ []) (2 ∷ 3 ∷ []) ∷ [])
+    ∷ row 0xEE121B03 (49 ∷ []) (from (4 ∷ 5 ∷ 6 ∷ 7 ∷ 2 ∷ 3 ∷ []) (2 ∷ 3 ∷ []) ∷ [])
+    ∷ row 0xEE121B43 (49 ∷ []) (from (4 ∷ 5 ∷ 6 ∷ 7 ∷ 2 ∷ 3 ∷ []) (2 ∷ 3 ∷ []) ∷ [])
+    ∷ row 0xEE221B03 (49 ∷ []) (from (4 ∷ 5 ∷ 6 ∷ 7 ∷ []) (2 ∷ 3 ∷ []) ∷ [])
+    ∷ row 0xEE221B43 (49 ∷ []) (from (4 ∷ 5 ∷ 6 ∷ 7 ∷ []) (2 ∷ 3 ∷ []) ∷ [])
+    ∷ row 0xEE321B03 (49 ∷ []) (from (4 ∷ 5 ∷ 6 ∷ 7 ∷ []) (2 ∷ 3 ∷ []) ∷ [])
+    ∷ row 0xEE321B43 (49 ∷ []) (from (4 ∷ 5 ∷ 6 ∷ 7 ∷ []) (2 ∷ 3 ∷ []) ∷ [])
+    ∷ row 0xEE821B03 (49 ∷ []) (from (4 ∷ 5 ∷ 6 ∷ 7 ∷ []) (2 ∷ 3 ∷ []) ∷ [])
+    ∷ row 0xEEB01B43 (49 ∷ []) (from (6 ∷ []) (2 ∷ []) ∷ from (7 ∷ []) (3 ∷ []) ∷ [])
+    ∷ row 0xEEB01BC3 (49 ∷ []) (from (6 ∷ []) (2 ∷ []) ∷ from (7 ∷ []) (3 ∷ []) ∷ [])
+    ∷ row 0xEEB11B43 (49 ∷ []) (from (6 ∷ []) (2 ∷ []) ∷ from (7 ∷ []) (3 ∷ []) ∷ [])
+    ∷ row 0xEEB11BC3 (49 ∷ []) (from (6 ∷ 7 ∷ []) (2 ∷ 3 ∷ []) ∷ [])
+    ∷ row 0xEEB41B43 ([]) (from (2 ∷ 3 ∷ 6 ∷ 7 ∷ []) (48 ∷ []) ∷ [])
+    ∷ row 0xEEB41BC3 ([]) (from (2 ∷ 3 ∷ 6 ∷ 7 ∷ []) (48 ∷ []) ∷ [])
+    ∷ row 0xEEB51B43 ([]) (from (2 ∷ 3 ∷ []) (48 ∷ []) ∷ [])
+    ∷ row 0xEEB51BC3 ([]) (from (2 ∷ 3 ∷ []) (48 ∷ []) ∷ [])
+    ∷ row 0xEEB71BC3 ([]) (from (49 ∷ 6 ∷ 7 ∷ []) (2 ∷ []) ∷ [])
+    ∷ row 0xEEB81B43 ([]) (from (6 ∷ []) (2 ∷ 3 ∷ []) ∷ [])
+    ∷ row 0xEEB81BC3 ([]) (from (6 ∷ []) (2 ∷ 3 ∷ []) ∷ [])
+    ∷ row 0xEEBC1B43 ([]) (from (49 ∷ 6 ∷ 7 ∷ []) (2 ∷ []) ∷ [])
+    ∷ row 0xEEBC1BC3 ([]) (from (6 ∷ 7 ∷ []) (2 ∷ []) ∷ [])
+    ∷ row 0xEEBD1B43 ([]) (from (49 ∷ 6 ∷ 7 ∷ []) (2 ∷ []) ∷ [])
+    ∷ row 0xEEBD1BC3 ([]) (from (6 ∷ 7 ∷ []) (2 ∷ []) ∷ [])
+    ∷ row 0xEEF12A10 ([]) (from (48 ∷ 49 ∷ []) (34 ∷ []) ∷ [])
+    ∷ row 0xEEF1FA10 ([]) (from (48 ∷ []) (51 ∷ []) ∷ [])
+    ∷ row 0xEEE12A10 ([]) (from (34 ∷ []) (48 ∷ []) ∷ from (34 ∷ []) (49 ∷ []) ∷ [])
+    ∷ row 0xEEF82A10 ([]) (from (50 ∷ []) (34 ∷ []) ∷ [])
+    ∷ row 0xEEE82A10 ([]) (from (34 ∷ []) (50 ∷ []) ∷ [])
+    ∷ row 0xEEF02A10 ([]) (from ([]) (34 ∷ []) ∷ [])
+    ∷ row 0xEE122A90 ([]) (from (5 ∷ []) (34 ∷ []) ∷ [])
+    ∷ row 0xEE022A90 ([]) (from (34 ∷ []) (5 ∷ []) ∷ [])
+    ∷ row 0xEC532A13 ([]) (from (6 ∷ []) (34 ∷ []) ∷ from (7 ∷ []) (35 ∷ []) ∷ [])
+    ∷ row 0xEC432A13 ([]) (from (34 ∷ []) (6 ∷ []) ∷ from (35 ∷ []) (7 ∷ []) ∷ [])
+    ∷ row 0xEC532B13 ([]) (from (6 ∷ []) (34 ∷ []) ∷ from (7 ∷ []) (35 ∷ []) ∷ [])
+    ∷ row 0xEC432B13 ([]) (from (34 ∷ []) (6 ∷ []) ∷ from (35 ∷ []) (7 ∷ []) ∷ [])
+    ∷ []
+
+pub exact : map left rows ≡ map should rows
+unfolding left should tried sourcesOf ruled all marks nothingKnown rows watched meaning classTree conditioned dataTree operationTree operationOf operationBy extensionBy arithmetics transferTree loadStoreTree accessTree after afterMarks stepOf secondOf place
+exact = refl
