@@ -1,11 +1,13 @@
 // One word of a run, over lent registers and a lent window.
 ghost use mathlib.Core.Path.{_≡_};
 ghost use mathlib.Core.Bool.{false};
-ghost use Prim.Native.Nat.{_+_, _%_, _^_};
+ghost use mathlib.Core.List.{List};
+ghost use Prim.Native.Nat.{ℕ, _+_, _%_, _^_};
 ghost use lib.ListN.{getD, set};
 ghost use Rattle.machine.specs.Machine.{assembled};
 ghost use Rattle.machine.specs.Place.{state};
 ghost use Rattle.meaning.specs.Tree.{out, plain};
+ghost use Rattle.transfers.specs.Transfer.{transferTree};
 ghost use Rattle.run.specs.Word.{foreignWord, classTree, meaning};
 ghost use Rattle.run.specs.Run.{nextOf};
 use super::Next;
@@ -15,6 +17,8 @@ use bits::field::bits;
 use bits::psr::check_condition;
 use machine::Controls;
 use processing::Processed;
+use transfers::single::single_core;
+use transfers::system::system;
 use vfp::current_pc;
 
 // What is no array after a word, and what follows it.
@@ -54,10 +58,8 @@ pub fn execute(
 pub fn foreign(op: u32) -> bool
     ensures { λ b. ⌜ b ≡ foreignWord op ⌝ }
 {
-    let coproc = bits(op, 8, 11);
-    (bits(op, 28, 31) == 15)
-        | !((coproc == 10) | (coproc == 11))
-        | !((bits(op, 25, 27) == 0b110) | (bits(op, 24, 27) == 0b1110))
+    let class = bits(op, 24, 27);
+    (op >= 0xF000_0000) | (bits(op, 9, 11) != 0b101) | (class < 12) | (class > 14)
 }
 
 // A word whose condition holds, by its class.
@@ -79,18 +81,7 @@ pub fn perform(
         };
     }
     if bit(op, 4) {
-        let done = transfers::coprocessor_register(s, r, x, false, op);
-        let controls = done.controls;
-        if done.branched {
-            return Executed {
-                controls,
-                next: Next::Last,
-            };
-        }
-        return Executed {
-            controls,
-            next: Next::On,
-        };
+        return transfer(s, r, x, op);
     }
     let done = processing::data_processing(s, x.fpscr, op);
     match done {
@@ -112,6 +103,36 @@ pub fn perform(
                 next: Next::Halt(Stop::Undefined { pc, opcode: op }),
             }
         }
+    }
+}
+
+// A register transfer, as `transfers::coprocessor_register` does it. The two kinds are called directly: a call that takes and returns what is no
+// array passes it through memory at every word.
+fn transfer(s: &mut [u32; 32], r: &mut [u32; 16], x: Controls, op: u32) -> Executed
+    ensures { λ e. ⌜ ((v : List ℕ) → out (state (assembled (now (s .exit)) (now (r .exit)) (e .controls) false) v) (nextOf (e .next)) ≡ plain (transferTree false op) (state (assembled (now (s .entry)) (now (r .entry)) x false) v)) ⌝ }
+{
+    let opc1 = bits(op, 21, 23);
+    if opc1 == 7 {
+        return Executed {
+            controls: system(r, x, op),
+            next: Next::On,
+        };
+    }
+    if opc1 == 0 {
+        if single_core(s, r, false, op) {
+            return Executed {
+                controls: x,
+                next: Next::Last,
+            };
+        }
+        return Executed {
+            controls: x,
+            next: Next::On,
+        };
+    }
+    Executed {
+        controls: x,
+        next: Next::On,
     }
 }
 

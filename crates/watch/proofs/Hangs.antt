@@ -6,18 +6,14 @@ use lib.Dec.{eqb}
 use lib.Ieee.{Format, binary32, binary64}
 use borrow.Author.Tests.{ne-eqb}
 use Rattle.bits.specs.Field.{field, bitOf}
-use Rattle.bits.specs.Psr.{holds}
-use Rattle.bits.proofs.Flags.{psr-nzcv}
-use Rattle.machine.specs.Place.{State, core, control, nzcv}
+use Rattle.machine.specs.Place.{State, core, control}
 use Rattle.meaning.specs.Map.{Map, known}
 use Rattle.meaning.specs.Step.{Step, nothing}
 use Rattle.meaning.specs.Tree.{Tree, go}
 use Rattle.meaning.specs.Hang.{Hang, clear, at, pickHang, hangOf}
-use Rattle.meaning.proofs.Laws.{hang-known, hang-here, clear-go}
 use Rattle.processing.specs.Operation.{extensionBy}
 use Rattle.processing.specs.Data.{stepping, undefinedTree, operationTree, extensionTree}
 use Rattle.memory.specs.LoadStore.{accessTree, loadStoreTree}
-use Rattle.run.specs.Word.{conditioned}
 use Rattle.transfers.specs.Transfer.{systemTree, singleTree, transferTree}
 
 pub steps : (f : Format) (d : ℕ) (each : ℕ → ℕ → Step) (st : State) (μ : Map) → pickHang (known μ control) clear (at 49) ≡ hangOf (stepping f d each) st μ
@@ -71,27 +67,6 @@ module _ (base w k : ℕ) (p : k ≡ field w 8 11) where
   pub access-none : (k ≡ 10 → ⊥) → (k ≡ 11 → ⊥) → loadStoreTree base w ≡ go nothing
   unfolding loadStoreTree
   access-none a b = rw (← p, ne-eqb _ _ a, ne-eqb _ _ b)
-
--- ---- the condition
-
-pub always : (k : ℕ) (t : Tree) → k ≡ 14 → conditioned k t ≡ t
-unfolding conditioned
-always k t e = rw e
-
-module _ (k : ℕ) (t : Tree) (st : State) (μ : Map) (n : k ≡ 14 → ⊥) where
-  pub flags-unknown : known μ nzcv ≡ false → at 51 ≡ hangOf (conditioned k t) st μ
-  unfolding conditioned
-  flags-unknown e = rw (ne-eqb _ _ n) (hang-here nzcv _ st μ e)
-
-  asked-flags : (h : Hang) → known μ nzcv ≡ true → h ≡ hangOf (cond (holds k (st .machine .cpsr)) t (go nothing)) st μ → h ≡ hangOf (conditioned k t) st μ
-  unfolding conditioned
-  asked-flags h e g = rw (ne-eqb _ _ n) (hang-known nzcv _ st μ h e (rw (psr-nzcv (st .machine .cpsr)) g))
-
-  pub holding : (h : Hang) → known μ nzcv ≡ true → holds k (st .machine .cpsr) ≡ true → h ≡ hangOf t st μ → h ≡ hangOf (conditioned k t) st μ
-  holding h e g i = asked-flags h e (rw g i)
-
-  pub failing : known μ nzcv ≡ true → holds k (st .machine .cpsr) ≡ false → clear ≡ hangOf (conditioned k t) st μ
-  failing e g = asked-flags clear e (rw g (clear-go nothing st μ))
 
 -- ---- a transfer asks for nothing
 

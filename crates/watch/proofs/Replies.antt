@@ -1,23 +1,20 @@
 -- From the words' promises to the watched run's.
 use Prim.Native.Nat.{ℕ}
-use mathlib.Core.Path.{_≡_, ap, sym}
+use mathlib.Core.Path.{_≡_, ap}
 use mathlib.Core.Bool.{false}
 use mathlib.Core.List.{List}
 use Rattle.machine.specs.declared.Machine.{Machine}
 use Rattle.machine.specs.declared.Controls.{Controls}
 use Rattle.machine.specs.Machine.{assembled, controlsOf}
-use Rattle.machine.specs.Place.{State, state}
+use Rattle.machine.specs.Place.{state}
 use Rattle.meaning.specs.declared.Marks.{Marks}
 use Rattle.meaning.specs.declared.Known.{Known}
 use Rattle.meaning.specs.Map.{Map, mapOf, mapFrom, knownOf}
-use Rattle.meaning.specs.Tree.{Tree, halt, seen, watched}
-use Rattle.meaning.specs.Hang.{at, hangOf}
-use Rattle.meaning.proofs.Laws.{split-at}
+use Rattle.meaning.specs.Tree.{Tree}
 use Rattle.run.specs.declared.Stop.{Stop}
 use Rattle.run.specs.Run.{stopOf}
 use Rattle.watch.specs.declared.Watched.{Watched}
 use Rattle.watch.specs.Watch.{answered, reply}
-use Rattle.meaning.specs.Stop as S
 use Rattle.meaning.specs.Run as R
 
 -- an answer of these parts
@@ -25,10 +22,6 @@ pub answered-as : (a : Watched) (stop : Stop) (count : ℕ) (m : Machine) (k : M
     → (a .stop ≡ stop) × (a .count ≡ count) × (a .machine ≡ m) × (a .marks ≡ k)
     → R.endedWith (state m v) (mapOf k w) count (stopOf stop) ≡ e → answered a v w ≡ reply e
 answered-as a stop count m k v w e p q = rw (p .0, p .1, p .2, p .3) (ap reply q)
-
--- a word that hangs
-pub hanging : (t : Tree) (st : State) (μ : Map) (n : ℕ) → at n ≡ hangOf t st μ → seen st μ (halt (S.hangs n)) ≡ watched t st μ
-hanging t st μ n h = sym (split-at t st μ n (sym h))
 
 whole : (m : Machine) → m .thumb ≡ false → assembled (m .s) (m .r) (controlsOf m) false ≡ m
 whole m e = rw (← e)

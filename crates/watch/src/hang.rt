@@ -1,4 +1,4 @@
-// The place that a word hangs on, in document 01's order: the condition, Undefined, a stepping word, a load or store.
+// The place that a word of a class hangs on: Undefined, a stepping word, a load or store. The condition stands before them, in `watch_word`.
 ghost use mathlib.Core.Path.{_≡_};
 ghost use mathlib.Core.Bool.{Bool, true, false};
 ghost use mathlib.Core.List.{List};
@@ -11,16 +11,12 @@ ghost use Rattle.meaning.specs.Hang.{clear, at, pickHang, hangOf};
 ghost use lib.Ieee.{Format};
 ghost use Rattle.processing.specs.Data.{dataTree, wordTree, extensionTree};
 ghost use Rattle.memory.specs.LoadStore.{accessTree, loadStoreTree};
-ghost use Rattle.run.specs.Word.{classTree, meaning};
 ghost use Rattle.watch.specs.Watch.{hangIs};
 use bits::field::bit;
 use bits::field::bits;
-use bits::psr::Psr;
-use bits::psr::check_condition;
 ghost use Rattle.meaning.specs.declared.Known.{Known};
 use meaning::Known;
 use processing::fields::kind;
-use run::word::foreign;
 
 pub enum Hang {
     Clear,
@@ -37,40 +33,8 @@ fn asked(known: bool, place: usize) -> Hang
     Hang::At(place)
 }
 
-pub fn hang_of(kr: &[bool; 16], k: Known, flags: Psr, op: u32) -> Hang
-    ensures { λ h. ⌜ ((base : ℕ) (st : State) (s : List Bool) (w : List ℕ) → st .machine .cpsr ≡ flags → hangIs h ≡ hangOf (meaning base op) st (mapFrom s (now (kr .entry)) k w)) ⌝ }
-{
-    if foreign(op) {
-        return Hang::Clear;
-    }
-    let condition = bits(op, 28, 31);
-    if condition == 14 {
-        return hang_class(kr, k, op);
-    }
-    if !k.nzcv {
-        return Hang::At(51);
-    }
-    if check_condition(condition, flags) {
-        return hang_class(kr, k, op);
-    }
-    Hang::Clear
-}
-
-// A word whose condition holds, by its class.
-fn hang_class(kr: &[bool; 16], k: Known, op: u32) -> Hang
-    ensures { λ h. ⌜ ((base : ℕ) (st : State) (s : List Bool) (w : List ℕ) → hangIs h ≡ hangOf (classTree base op) st (mapFrom s (now (kr .entry)) k w)) ⌝ }
-{
-    if bits(op, 25, 27) == 0b110 {
-        return hang_access(kr, op);
-    }
-    if bit(op, 4) {
-        return Hang::Clear;
-    }
-    hang_data(kr, k, op)
-}
-
 // A load or store hangs on its base register; a pair has none.
-fn hang_access(kr: &[bool; 16], op: u32) -> Hang
+pub fn hang_access(kr: &[bool; 16], op: u32) -> Hang
     ensures { λ h. ⌜ ((k : Known) (base : ℕ) (st : State) (s : List Bool) (w : List ℕ) → hangIs h ≡ hangOf (loadStoreTree base op) st (mapFrom s (now (kr .entry)) k w)) ⌝ }
 {
     let coproc = bits(op, 8, 11);
@@ -95,7 +59,7 @@ fn hang_base(kr: &[bool; 16], op: u32) -> Hang
 }
 
 // Data processing, by the coprocessor: any but 10 and 11 is Undefined.
-fn hang_data(kr: &[bool; 16], k: Known, op: u32) -> Hang
+pub fn hang_data(kr: &[bool; 16], k: Known, op: u32) -> Hang
     ensures { λ h. ⌜ ((st : State) (s : List Bool) (w : List ℕ) → hangIs h ≡ hangOf (dataTree false op) st (mapFrom s (now (kr .entry)) k w)) ⌝ }
 {
     let coproc = bits(op, 8, 11);

@@ -12,8 +12,6 @@ ghost use Rattle.meaning.specs.Run as R;
 ghost use Rattle.run.specs.Word.{meaning};
 ghost use Rattle.watch.specs.Watch.{answered, reply};
 ghost use Rattle.watch.specs.Demand.{Promise};
-use hang::Hang;
-use hang::hang_of;
 use limit::watch_limit;
 use machine::Machine;
 use meaning::Known;
@@ -22,8 +20,7 @@ use run::Next;
 use run::Stop;
 use run::progress::Progress;
 use run::word::advance;
-use run::word::execute;
-use word::mark_word;
+use word::watch_word;
 
 // The stop, how many words were counted, and the machine and the marks handed back.
 pub struct Watched {
@@ -78,18 +75,20 @@ fn watch_words(
     let mut i: usize = 0;
     while i < list.len() {
         let op = list[i];
-        let flags = x.cpsr;
-        let hang = hang_of(&kr, k, flags, op);
-        match hang {
-            Hang::At(place) => {
-                let left = Progress { s, r, controls: x };
-                return ended(left, ks, kr, k, Stop::Hangs(place), i);
-            }
-            Hang::Clear => {}
-        }
-        k = mark_word(&mut ks, &mut kr, k, window_marks, &r, x, base, op);
-        let done = execute(&mut s, &mut r, x, window, base, op);
+        let done = watch_word(
+            &mut s,
+            &mut r,
+            x,
+            window,
+            &mut ks,
+            &mut kr,
+            k,
+            window_marks,
+            base,
+            op,
+        );
         x = done.controls;
+        k = done.known;
         let next = done.next;
         match next {
             Next::On => {

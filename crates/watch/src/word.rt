@@ -1,13 +1,22 @@
-// The marks that a word leaves, from the machine before it.
+// One watched word: where it would hang on an unknown place it stops there, else its marks are made and it is executed.
 ghost use mathlib.Core.Path.{_≡_};
-ghost use mathlib.Core.Bool.{Bool, false};
+ghost use mathlib.Core.Bool.{false};
 ghost use mathlib.Core.List.{List};
 ghost use Prim.Native.Nat.{ℕ};
+ghost use Rattle.machine.specs.declared.Controls.{Controls};
 ghost use Rattle.machine.specs.Machine.{assembled};
 ghost use Rattle.machine.specs.Place.{state};
+ghost use Rattle.meaning.specs.declared.Known.{Known};
 ghost use Rattle.meaning.specs.Map.{mapFrom};
-ghost use Rattle.meaning.specs.Hang.{marked};
+ghost use Rattle.meaning.specs.Tree.{seen, watched};
+ghost use Rattle.processing.specs.Data.{dataTree};
+ghost use Rattle.memory.specs.LoadStore.{loadStoreTree};
+ghost use Rattle.transfers.specs.Transfer.{transferTree};
 ghost use Rattle.run.specs.Word.{classTree, meaning};
+ghost use Rattle.run.specs.Run.{nextOf};
+use super::hang::Hang;
+use super::hang::hang_access;
+use super::hang::hang_data;
 use access_marks::mark_load_store;
 use access_marks::mark_register;
 use bits::field::bit;
@@ -15,50 +24,189 @@ use bits::field::bits;
 use bits::psr::check_condition;
 use machine::Controls;
 use meaning::Known;
+use processing::Processed;
 use processing_marks::mark_data;
+use run::Next;
+use run::Stop;
 use run::word::foreign;
+use vfp::current_pc;
 
-pub fn mark_word(
+// What is no array of the machine and of the marks after a word, and what follows it.
+pub struct Seen {
+    pub controls: Controls,
+    pub known: Known,
+    pub next: Next,
+}
+
+// A word, without the growth of r15.
+pub fn watch_word(
+    s: &mut [u32; 32],
+    r: &mut [u32; 16],
+    x: Controls,
+    window: &mut [u32],
     ks: &mut [bool; 32],
     kr: &mut [bool; 16],
     k: Known,
     window_marks: &mut [u8],
-    r: &[u32; 16],
-    x: Controls,
     base: u32,
     op: u32,
-) -> Known
-    ensures { λ k′. ⌜ ((s v : List ℕ) → mapFrom (now (ks .exit)) (now (kr .exit)) k′ (now («window_marks» .exit)) ≡ marked (meaning base op) (state (assembled s (now (r .entry)) x false) v) (mapFrom (now (ks .entry)) (now (kr .entry)) k (now («window_marks» .entry)))) ⌝ }
+) -> Seen
+    ensures { λ e. ⌜ seen (state (assembled (now (s .exit)) (now (r .exit)) (e .controls) false) (now (window .exit))) (mapFrom (now (ks .exit)) (now (kr .exit)) (e .known) (now («window_marks» .exit))) (nextOf (e .next)) ≡ watched (meaning base op) (state (assembled (now (s .entry)) (now (r .entry)) x false) (now (window .entry))) (mapFrom (now (ks .entry)) (now (kr .entry)) k (now («window_marks» .entry))) ⌝ }
 {
     if foreign(op) {
-        return k;
+        return Seen {
+            controls: x,
+            known: k,
+            next: Next::Halt(Stop::Foreign),
+        };
     }
-    let flags = x.cpsr;
-    if check_condition(bits(op, 28, 31), flags) {
-        return mark_class(ks, kr, k, window_marks, r, x, base, op);
+    let condition = bits(op, 28, 31);
+    if condition != 14 {
+        if !k.nzcv {
+            return Seen {
+                controls: x,
+                known: k,
+                next: Next::Halt(Stop::Hangs(51)),
+            };
+        }
+        let flags = x.cpsr;
+        if !check_condition(condition, flags) {
+            return Seen {
+                controls: x,
+                known: k,
+                next: Next::On, // skipped, and counted
+            };
+        }
     }
-    k
+    watch_class(s, r, x, window, ks, kr, k, window_marks, base, op)
 }
 
 // A word whose condition holds, by its class.
-fn mark_class(
+fn watch_class(
+    s: &mut [u32; 32],
+    r: &mut [u32; 16],
+    x: Controls,
+    window: &mut [u32],
     ks: &mut [bool; 32],
     kr: &mut [bool; 16],
     k: Known,
     window_marks: &mut [u8],
-    r: &[u32; 16],
-    x: Controls,
     base: u32,
     op: u32,
-) -> Known
-    ensures { λ k′. ⌜ ((s v : List ℕ) → mapFrom (now (ks .exit)) (now (kr .exit)) k′ (now («window_marks» .exit)) ≡ marked (classTree base op) (state (assembled s (now (r .entry)) x false) v) (mapFrom (now (ks .entry)) (now (kr .entry)) k (now («window_marks» .entry)))) ⌝ }
+) -> Seen
+    ensures { λ e. ⌜ seen (state (assembled (now (s .exit)) (now (r .exit)) (e .controls) false) (now (window .exit))) (mapFrom (now (ks .exit)) (now (kr .exit)) (e .known) (now («window_marks» .exit))) (nextOf (e .next)) ≡ watched (classTree base op) (state (assembled (now (s .entry)) (now (r .entry)) x false) (now (window .entry))) (mapFrom (now (ks .entry)) (now (kr .entry)) k (now («window_marks» .entry))) ⌝ }
 {
     if bits(op, 25, 27) == 0b110 {
-        mark_load_store(ks, kr, window_marks, r, base, op);
-        return k;
+        let next = watch_access(s, r, window, ks, kr, window_marks, base, op);
+        return Seen {
+            controls: x,
+            known: k,
+            next,
+        };
     }
     if bit(op, 4) {
-        return mark_register(ks, kr, k, op);
+        return watch_transfer(s, r, x, ks, kr, k, op);
     }
-    mark_data(ks, k, x.fpscr, op)
+    watch_data(s, r, x, ks, kr, k, op)
+}
+
+// A load or store hangs on its base register.
+fn watch_access(
+    s: &mut [u32; 32],
+    r: &mut [u32; 16],
+    window: &mut [u32],
+    ks: &mut [bool; 32],
+    kr: &mut [bool; 16],
+    window_marks: &mut [u8],
+    base: u32,
+    op: u32,
+) -> Next
+    ensures { λ n. ⌜ ((x : Controls) (k : Known) → seen (state (assembled (now (s .exit)) (now (r .exit)) x false) (now (window .exit))) (mapFrom (now (ks .exit)) (now (kr .exit)) k (now («window_marks» .exit))) (nextOf n) ≡ watched (loadStoreTree base op) (state (assembled (now (s .entry)) (now (r .entry)) x false) (now (window .entry))) (mapFrom (now (ks .entry)) (now (kr .entry)) k (now («window_marks» .entry)))) ⌝ }
+{
+    let hang = hang_access(kr, op);
+    match hang {
+        Hang::At(place) => Next::Halt(Stop::Hangs(place)),
+        Hang::Clear => {
+            mark_load_store(ks, kr, window_marks, r, base, op);
+            memory::coprocessor_load_store(s, r, window, base, op);
+            Next::On
+        }
+    }
+}
+
+// A transfer never hangs.
+fn watch_transfer(
+    s: &mut [u32; 32],
+    r: &mut [u32; 16],
+    x: Controls,
+    ks: &mut [bool; 32],
+    kr: &mut [bool; 16],
+    k: Known,
+    op: u32,
+) -> Seen
+    ensures { λ e. ⌜ ((v w : List ℕ) → seen (state (assembled (now (s .exit)) (now (r .exit)) (e .controls) false) v) (mapFrom (now (ks .exit)) (now (kr .exit)) (e .known) w) (nextOf (e .next)) ≡ watched (transferTree false op) (state (assembled (now (s .entry)) (now (r .entry)) x false) v) (mapFrom (now (ks .entry)) (now (kr .entry)) k w)) ⌝ }
+{
+    let known = mark_register(ks, kr, k, op);
+    let done = transfers::coprocessor_register(s, r, x, false, op);
+    let controls = done.controls;
+    if done.branched {
+        return Seen {
+            controls,
+            known,
+            next: Next::Last,
+        };
+    }
+    Seen {
+        controls,
+        known,
+        next: Next::On,
+    }
+}
+
+// Data processing hangs on r15 where it is Undefined, and on FPSCR 27:0 where it steps.
+fn watch_data(
+    s: &mut [u32; 32],
+    r: &[u32; 16],
+    x: Controls,
+    ks: &mut [bool; 32],
+    kr: &[bool; 16],
+    k: Known,
+    op: u32,
+) -> Seen
+    ensures { λ e. ⌜ ((v w : List ℕ) → seen (state (assembled (now (s .exit)) (now (r .entry)) (e .controls) false) v) (mapFrom (now (ks .exit)) (now (kr .entry)) (e .known) w) (nextOf (e .next)) ≡ watched (dataTree false op) (state (assembled (now (s .entry)) (now (r .entry)) x false) v) (mapFrom (now (ks .entry)) (now (kr .entry)) k w)) ⌝ }
+{
+    let hang = hang_data(kr, k, op);
+    match hang {
+        Hang::At(place) => Seen {
+            controls: x,
+            known: k,
+            next: Next::Halt(Stop::Hangs(place)),
+        },
+        Hang::Clear => {
+            let known = mark_data(ks, k, x.fpscr, op);
+            let done = processing::data_processing(s, x.fpscr, op);
+            match done {
+                Processed::Done(fpscr) => {
+                    let cpsr = x.cpsr;
+                    Seen {
+                        controls: Controls {
+                            fpscr,
+                            fpexc: x.fpexc,
+                            cpsr,
+                        },
+                        known,
+                        next: Next::On,
+                    }
+                }
+                Processed::Undefined => {
+                    let pc = current_pc(r[15], false);
+                    Seen {
+                        controls: x,
+                        known,
+                        next: Next::Halt(Stop::Undefined { pc, opcode: op }),
+                    }
+                }
+            }
+        }
+    }
 }

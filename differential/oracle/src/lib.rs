@@ -198,7 +198,37 @@ pub fn run(cpu: &mut Cpu, call: Call, thumb: bool, word: u32, base: u32, state: 
     }
 }
 
-/// the same, of a case by value.
+/// The Rust's calls over a list by document 01's rules, on a Cpu as it stands and in ARM state: the answer of the C interface. This is
+/// the loop that the plain run is timed against: nothing is copied per word, and NaNs are left as they come.
+pub fn run_list(cpu: &mut Cpu, window: &mut [u32], base: u32, list: &[u32]) -> [u32; 4] {
+    let mut bus = Window { base, words: window };
+    let mut count = 0;
+    for &word in list {
+        let coprocessor = word >> 8 & 15;
+        let load_store = word >> 25 & 7 == 6;
+        if word >> 28 == 15 || !matches!(coprocessor, 10 | 11) || !(load_store || word >> 24 & 15 == 14) {
+            return [count, 0, 0, 0];
+        }
+        if check_condition(word >> 28, &cpu.cpsr) {
+            let exit = match (load_store, word >> 4 & 1) {
+                (true, _) => vfp::coprocessor_load_store(cpu, &mut bus, word),
+                (false, 1) => vfp::coprocessor_register(cpu, word),
+                _ => vfp::data_processing(cpu, word),
+            };
+            if arm::take_branched(cpu) {
+                return [count + 1, 0, 0, 0];
+            }
+            if let Some(Exit::Undefined { pc, opcode }) = exit {
+                return [count, 0, pc, opcode];
+            }
+        }
+        count += 1;
+        cpu.regs[15] = cpu.regs[15].wrapping_add(4);
+    }
+    [count, 0, 0, 0]
+}
+
+/// One call of a case by value.
 pub fn answer(case: &Case) -> Reply {
     let mut state = case.state;
     let mut window = case.window.clone();

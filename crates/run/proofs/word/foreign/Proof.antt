@@ -1,5 +1,9 @@
 -- `run::word::foreign` meets its contract.
+use Rattle.run.proofs.Words.{foreign-tests}
 use borrow.Author.Needs.{needs}
+use Rattle.run.proofs.word.foreign.Reads as reads
+use Rattle.run.proofs.word.foreign.Lts as lts
+use Rattle.bits.proofs.field.bits.Reads as bits-reads
 use Rattle.run.proofs.word.foreign.Statement.{statement}
 use Rattle.run.proofs.word.foreign.Tie as tie
 
@@ -9,15 +13,8 @@ bits-requires c κs = search needs
 bits-requires-2 : tie.Need-bits-requires-2
 bits-requires-2 c κs = search needs
 
-bits-requires-3 : tie.Need-bits-requires-3
-bits-requires-3 c κs = search needs
-
-bits-requires-4 : tie.Need-bits-requires-4
-bits-requires-4 c κs = search needs
-
 returns : tie.Need-returns
-returns c = rw (c .before .before .before .bits .ensures, c .before .before .bits2 .ensures, c .before .bits3 .ensures, c .bits4 .ensures)
+returns c = foreign-tests (c .before .before .args .op) (c .before .bits .result) (c .bits2 .result) (c .before .bits .ensures) (c .bits2 .ensures) (c .before .before .good .0 .1)
 
 pub foreign-spec : {M : Type 1} → statement M
-foreign-spec =
-    tie.close (tie.spec bits-requires bits-requires-2 bits-requires-3 bits-requires-4 returns)
+foreign-spec = tie.close (tie.spec bits-requires bits-requires-2 returns)

@@ -1,0 +1,162 @@
+//! bench [ROUNDS]: the plain run of libfpu.a beside the unchanged Rust's three calls in a loop, and the watched run beside the plain one.
+//! Each round times the three on the same list, one after the other; the table has the best of all rounds, in nanoseconds a word.
+
+mod lists;
+
+use fpu::raw;
+use lists::{Mix, BASE, WINDOW};
+use oracle::{Cpu, STATE};
+use std::hint::black_box;
+use std::time::Instant;
+
+/// lists that are run between two looks at the clock.
+const AT_ONCE: usize = 4;
+
+struct Times {
+    rust: f64,
+    run: f64,
+    watch: f64,
+}
+
+fn clocked(words: usize, mut once: impl FnMut()) -> f64 {
+    let start = Instant::now();
+    for _ in 0..AT_ONCE {
+        once();
+    }
+    start.elapsed().as_secs_f64() * 1e9 / (AT_ONCE * words) as f64
+}
+
+fn best(old: &mut f64, new: f64) {
+    *old = old.min(new);
+}
+
+/// the three ways on one list, each from the same machine and window; they have to leave the same.
+fn measure(mix: &Mix, rounds: usize) -> Times {
+    let window = vec![0x3F80_0000; WINDOW];
+    let words = mix.list.len();
+    let mut cpu = Cpu::new();
+    let mut t = Times { rust: f64::MAX, run: f64::MAX, watch: f64::MAX };
+    let mut answers = [[0; 4]; 3];
+    let mut states = [mix.state; 3];
+    let mut windows = [window.clone(), window.clone(), window.clone()];
+    let mut window_marks = vec![1u8; WINDOW];
+    for _ in 0..rounds {
+        best(&mut t.rust, clocked(words, || {
+            oracle::unpack(&mut cpu, &mix.state, false);
+            answers[0] = oracle::run_list(&mut cpu, &mut windows[0], BASE, black_box(&mix.list));
+        }));
+        best(&mut t.run, clocked(words, || {
+            states[1] = mix.state;
+            raw::run(&mut states[1], &mut windows[1], BASE, 0, black_box(&mix.list), &mut answers[1]);
+        }));
+        best(&mut t.watch, clocked(words, || {
+            states[2] = mix.state;
+            let mut marks = [1u8; STATE];
+            raw::watch(&mut states[2], &mut marks, &mut windows[2], &mut window_marks, BASE, 0, black_box(&mix.list), &mut answers[2]);
+        }));
+    }
+    oracle::pack(&cpu, &mut states[0]);
+    let same = answers[0] == answers[1] && answers[1] == answers[2] && states[0] == states[1] && states[1] == states[2] && windows[0] == windows[1] && windows[1] == windows[2];
+    assert!(same && answers[1][0] as usize == words, "{}: the three runs differ: {answers:?}", mix.name);
+    t
+}
+
+fn mean(ratios: &[f64]) -> f64 {
+    (ratios.iter().map(|x| x.ln()).sum::<f64>() / ratios.len() as f64).exp()
+}
+
+fn worst(ratios: &[f64]) -> f64 {
+    ratios.iter().copied().fold(0.0, f64::max)
+}
+
+fn table(rounds: usize) {
+    println!("| list of 4,096 words | Rust, ns a word | run | run / Rust | watch | watch / run |");
+    println!("|---|---|---|---|---|---|");
+    let (mut plain, mut watched) = (Vec::new(), Vec::new());
+    for mix in lists::mixes() {
+        let t = measure(&mix, rounds);
+        plain.push(t.run / t.rust);
+        watched.push(t.watch / t.run);
+        println!("| {} | {:.2} | {:.2} | {:.2} | {:.2} | {:.2} |", mix.name, t.rust, t.run, t.run / t.rust, t.watch, t.watch / t.run);
+    }
+    println!("| geometric mean | | | {:.2} | | {:.2} |", mean(&plain), mean(&watched));
+    println!("| worst | | | {:.2} | | {:.2} |", worst(&plain), worst(&watched));
+}
+
+/// the best time of one call, in microseconds.
+fn call(rounds: usize, mut once: impl FnMut()) -> f64 {
+    (0..rounds).map(|_| clocked(1, &mut once)).fold(f64::MAX, f64::min) / 1000.0
+}
+
+fn run_once(mix: &Mix, words: usize, window: usize, watched: bool, rounds: usize) -> f64 {
+    let mut window = vec![0; window];
+    let mut window_marks = vec![1u8; window.len()];
+    let mut answer = [0; 4];
+    let list = &mix.list[..words];
+    call(rounds, || {
+        let mut state = mix.state;
+        let mut marks = [1u8; STATE];
+        if watched {
+            raw::watch(&mut state, &mut marks, &mut window, &mut window_marks, BASE, 0, black_box(list), &mut answer);
+        } else {
+            raw::run(&mut state, &mut window, BASE, 0, black_box(list), &mut answer);
+        }
+        assert_eq!(answer[0] as usize, words);
+    })
+}
+
+fn growth(rounds: usize) {
+    let scalar = lists::of_length(0);
+    println!("\n| VADD.F32, words in the list | run, microseconds a call | watch |");
+    println!("|---|---|---|");
+    for words in [0, 1, 16, 64, 256, 1024, 4096] {
+        println!("| {words} | {:.2} | {:.2} |", run_once(&scalar, words, 0, false, rounds), run_once(&scalar, words, 0, true, rounds));
+    }
+    println!("\n| words in the window, 64 words of VADD.F32 | run, microseconds a call | watch |");
+    println!("|---|---|---|");
+    for window in [0, 64, 1024, 4096, 16384] {
+        println!("| {window} | {:.2} | {:.2} |", run_once(&scalar, 64, window, false, rounds), run_once(&scalar, 64, window, true, rounds));
+    }
+    println!("\n| the refusal test alone: no word, a window of 16,384 words | run, microseconds a call | watch |");
+    println!("|---|---|---|");
+    println!("| | {:.2} | {:.2} |", run_once(&scalar, 0, 16384, false, rounds), run_once(&scalar, 0, 16384, true, rounds));
+    println!("\n| LEN of VADD.F32 | Rust, ns a word | run | run / Rust | watch | watch / run |");
+    println!("|---|---|---|---|---|---|");
+    for len in 0..8 {
+        let t = measure(&lists::of_length(len), rounds);
+        println!("| {len} | {:.2} | {:.2} | {:.2} | {:.2} | {:.2} |", t.rust, t.run, t.run / t.rust, t.watch, t.watch / t.run);
+    }
+}
+
+/// runs one mix and nothing else, for callgrind: bench of MIX rust|run|watch.
+fn only(number: usize, way: &str) {
+    let mixes = lists::mixes();
+    let mix = &mixes[number];
+    let (mut window, mut window_marks, mut marks, mut state, mut answer) = (vec![0x3F80_0000; WINDOW], vec![1u8; WINDOW], [1u8; STATE], mix.state, [0; 4]);
+    match way {
+        "rust" => {
+            let mut cpu = Cpu::new();
+            oracle::unpack(&mut cpu, &mix.state, false);
+            answer = oracle::run_list(&mut cpu, &mut window, BASE, &mix.list);
+        }
+        "run" => {
+            raw::run(&mut state, &mut window, BASE, 0, &mix.list, &mut answer);
+        }
+        _ => {
+            raw::watch(&mut state, &mut marks, &mut window, &mut window_marks, BASE, 0, &mix.list, &mut answer);
+        }
+    }
+    println!("{}: {} words", mix.name, answer[0]);
+}
+
+fn main() {
+    let words: Vec<String> = std::env::args().skip(1).collect();
+    if let [of, number, way] = &words[..] {
+        if of == "of" {
+            return only(number.parse().expect("a mix's number"), way);
+        }
+    }
+    let rounds = words.first().map_or(100, |w| w.parse().expect("a number of rounds"));
+    table(rounds);
+    growth(rounds);
+}
