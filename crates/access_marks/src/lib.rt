@@ -1,8 +1,8 @@
 // The marks that register transfers, loads and stores leave, for the watched run: the machine's work is in crates `transfers` and `memory`.
 mod pair;
 mod places;
-mod single;
-mod system;
+pub mod single;
+pub mod system;
 mod words;
 
 ghost use mathlib.Core.Path.{_≡_};
@@ -19,28 +19,12 @@ ghost use Rattle.meaning.specs.Map.{mapFrom};
 ghost use Rattle.meaning.specs.Step.{afterMarks};
 ghost use Rattle.meaning.specs.Hang.{marked};
 ghost use Rattle.memory.specs.LoadStore.{formatOf, countOf, accessAt, accessTree, loadStoreTree};
-ghost use Rattle.transfers.specs.Transfer.{transferTree};
 use bits::field::bits;
 use machine::registers::dreg;
 use machine::registers::sreg;
-use meaning::Known;
 use memory::address::count_of;
 use memory::address::start_of;
 use memory::halves::low_word;
-
-pub fn mark_register(ks: &mut [bool; 32], kr: &mut [bool; 16], k: Known, op: u32) -> Known
-    ensures { λ y. ⌜ ((thumb : Bool) (st : State) (w : List ℕ) → mapFrom (now (ks .exit)) (now (kr .exit)) y w ≡ marked (transferTree thumb op) st (mapFrom (now (ks .entry)) (now (kr .entry)) k w)) ⌝ }
-{
-    let opc1 = bits(op, 21, 23);
-    if opc1 == 7 {
-        return system::mark_system(kr, k, op);
-    }
-    if opc1 == 0 {
-        single::mark_single_core(ks, kr, op);
-        return k;
-    }
-    k
-}
 
 // The base register's value says which window words move. A write-back changes no mark.
 pub fn mark_load_store(

@@ -1,7 +1,8 @@
 -- Which place a word hangs on, by the tests that the code makes.
 use Prim.Native.Nat.{ℕ, _+_}
-use mathlib.Core.Path.{_≡_, refl}
-use mathlib.Core.Bool.{Bool, true, false, cond}
+use mathlib.Core.Path.{_≡_, refl, _∙_}
+use native.Mathlib.Omega.{arith}
+use mathlib.Core.Bool.{Bool, true, false, cond, _&&_}
 use lib.Dec.{eqb}
 use lib.Ieee.{Format, binary32, binary64}
 use borrow.Author.Tests.{ne-eqb}
@@ -11,8 +12,10 @@ use Rattle.meaning.specs.Map.{Map, known}
 use Rattle.meaning.specs.Step.{Step, nothing}
 use Rattle.meaning.specs.Tree.{Tree, go}
 use Rattle.meaning.specs.Hang.{Hang, clear, at, pickHang, hangOf}
-use Rattle.processing.specs.Operation.{extensionBy}
-use Rattle.processing.specs.Data.{stepping, undefinedTree, operationTree, extensionTree}
+use Rattle.processing.specs.Operation as O
+use Rattle.processing.specs.Operation.{Operation, extensionBy, operationOf}
+use Rattle.meaning.proofs.Laws.{clear-go}
+use Rattle.processing.specs.Data.{regD, stepping, undefinedTree, operationTree, extensionTree, dataTree}
 use Rattle.memory.specs.LoadStore.{accessTree, loadStoreTree}
 use Rattle.transfers.specs.Transfer.{systemTree, singleTree, transferTree}
 
@@ -23,6 +26,63 @@ steps f d each st μ = refl
 pub undefined : (thumb : Bool) (w : ℕ) (st : State) (μ : Map) → pickHang (known μ (core 15)) clear (at 47) ≡ hangOf (undefinedTree thumb w) st μ
 unfolding hangOf
 undefined thumb w st μ = refl
+
+clash : false ≡ true → ⊥
+clash e = let n : _≡_ {A = ℕ} 0 1 = cc in omega arith
+
+-- ---- where FPSCR 27:0 and r15 are known, no word of data processing hangs
+
+pub both : (a b : Bool) → (a && b) ≡ true → (a ≡ true) × (b ≡ true)
+both true b e = (refl, e)
+both false b e = (e, absurd (clash e))
+
+picked : (b : Bool) (x : Hang) → b ≡ true → clear ≡ pickHang b clear x
+picked b x e = rw e
+
+module _ (st : State) (μ : Map) (p : known μ control ≡ true) (q : known μ (core 15) ≡ true) where
+  stepping-known : (f : Format) (d : ℕ) (each : ℕ → ℕ → Step) → clear ≡ hangOf (stepping f d each) st μ
+  stepping-known f d each = picked (known μ control) (at 49) p ∙ steps f d each st μ
+
+  undefined-known : (w : ℕ) → clear ≡ hangOf (undefinedTree false w) st μ
+  undefined-known w = picked (known μ (core 15)) (at 47) q ∙ undefined false w st μ
+
+  operation-known : (f : Format) (w : ℕ) (o : Operation) → clear ≡ hangOf (operationTree false f w o) st μ
+  unfolding operationTree
+  operation-known f w O.fmac = stepping-known f (regD f w) _
+  operation-known f w O.fnmac = stepping-known f (regD f w) _
+  operation-known f w O.fmsc = stepping-known f (regD f w) _
+  operation-known f w O.fnmsc = stepping-known f (regD f w) _
+  operation-known f w O.fmul = stepping-known f (regD f w) _
+  operation-known f w O.fnmul = stepping-known f (regD f w) _
+  operation-known f w O.fadd = stepping-known f (regD f w) _
+  operation-known f w O.fsub = stepping-known f (regD f w) _
+  operation-known f w O.fdiv = stepping-known f (regD f w) _
+  operation-known f w O.fcpy = stepping-known f (regD f w) _
+  operation-known f w O.fabs = stepping-known f (regD f w) _
+  operation-known f w O.fneg = stepping-known f (regD f w) _
+  operation-known f w O.fsqrt = stepping-known f (regD f w) _
+  operation-known f w O.fcmp = clear-go _ st μ
+  operation-known f w O.fcmpe = clear-go _ st μ
+  operation-known f w O.fcmpz = clear-go _ st μ
+  operation-known f w O.fcmpez = clear-go _ st μ
+  operation-known f w O.fcvt = clear-go _ st μ
+  operation-known f w O.fuito = clear-go _ st μ
+  operation-known f w O.fsito = clear-go _ st μ
+  operation-known f w O.ftoui = clear-go _ st μ
+  operation-known f w O.ftouiz = clear-go _ st μ
+  operation-known f w O.ftosi = clear-go _ st μ
+  operation-known f w O.ftosiz = clear-go _ st μ
+  operation-known f w O.undefined = undefined-known w
+
+  pub data-known : (w : ℕ) → clear ≡ hangOf (dataTree false w) st μ
+  unfolding dataTree
+  data-known w = by (eqb (field w 8 11) 10) (eqb (field w 8 11) 11)
+    where
+      by : (a b : Bool)
+          → clear ≡ hangOf (cond a (operationTree false binary32 w (operationOf w)) (cond b (operationTree false binary64 w (operationOf w)) (undefinedTree false w))) st μ
+      by true b = operation-known binary32 w (operationOf w)
+      by false true = operation-known binary64 w (operationOf w)
+      by false false = undefined-known w
 
 -- ---- the extension group, by bits 19:16
 
@@ -67,6 +127,21 @@ module _ (base w k : ℕ) (p : k ≡ field w 8 11) where
   pub access-none : (k ≡ 10 → ⊥) → (k ≡ 11 → ⊥) → loadStoreTree base w ≡ go nothing
   unfolding loadStoreTree
   access-none a b = rw (← p, ne-eqb _ _ a, ne-eqb _ _ b)
+
+-- ---- transfers, by bits 23:21
+
+module _ (thumb : Bool) (w k : ℕ) (p : k ≡ field w 21 23) where
+  pub transfer-system : k ≡ 7 → transferTree thumb w ≡ systemTree w
+  unfolding transferTree
+  transfer-system e = rw (← p, e)
+
+  pub transfer-single : k ≡ 0 → transferTree thumb w ≡ singleTree thumb w
+  unfolding transferTree
+  transfer-single e = rw (← p, e)
+
+  pub transfer-none : (k ≡ 7 → ⊥) → (k ≡ 0 → ⊥) → transferTree thumb w ≡ go nothing
+  unfolding transferTree
+  transfer-none a b = rw (← p, ne-eqb _ _ a, ne-eqb _ _ b)
 
 -- ---- a transfer asks for nothing
 

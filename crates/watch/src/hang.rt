@@ -58,10 +58,14 @@ fn hang_base(kr: &[bool; 16], op: u32) -> Hang
     asked(kr[rn], 32 + rn)
 }
 
-// Data processing, by the coprocessor: any but 10 and 11 is Undefined.
+// Data processing hangs on FPSCR 27:0 or on r15; where both are known, as they mostly are, the word need not be looked at. By the
+// coprocessor: any but 10 and 11 is Undefined.
 pub fn hang_data(kr: &[bool; 16], k: Known, op: u32) -> Hang
     ensures { λ h. ⌜ ((st : State) (s : List Bool) (w : List ℕ) → hangIs h ≡ hangOf (dataTree false op) st (mapFrom s (now (kr .entry)) k w)) ⌝ }
 {
+    if k.control & kr[15] {
+        return Hang::Clear;
+    }
     let coproc = bits(op, 8, 11);
     if coproc == 10 {
         return hang_word(kr, k, op);

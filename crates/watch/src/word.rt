@@ -18,7 +18,8 @@ use super::hang::Hang;
 use super::hang::hang_access;
 use super::hang::hang_data;
 use access_marks::mark_load_store;
-use access_marks::mark_register;
+use access_marks::single::mark_single_core;
+use access_marks::system::mark_system;
 use bits::field::bit;
 use bits::field::bits;
 use bits::psr::check_condition;
@@ -29,6 +30,8 @@ use processing_marks::mark_data;
 use run::Next;
 use run::Stop;
 use run::word::foreign;
+use transfers::single::single_core;
+use transfers::system::system;
 use vfp::current_pc;
 
 // What is no array of the machine and of the marks after a word, and what follows it.
@@ -134,7 +137,7 @@ fn watch_access(
     }
 }
 
-// A transfer never hangs.
+// A transfer never hangs. Its two kinds are called directly, as in the plain run.
 fn watch_transfer(
     s: &mut [u32; 32],
     r: &mut [u32; 16],
@@ -146,19 +149,33 @@ fn watch_transfer(
 ) -> Seen
     ensures { λ e. ⌜ ((v w : List ℕ) → seen (state (assembled (now (s .exit)) (now (r .exit)) (e .controls) false) v) (mapFrom (now (ks .exit)) (now (kr .exit)) (e .known) w) (nextOf (e .next)) ≡ watched (transferTree false op) (state (assembled (now (s .entry)) (now (r .entry)) x false) v) (mapFrom (now (ks .entry)) (now (kr .entry)) k w)) ⌝ }
 {
-    let known = mark_register(ks, kr, k, op);
-    let done = transfers::coprocessor_register(s, r, x, false, op);
-    let controls = done.controls;
-    if done.branched {
+    let opc1 = bits(op, 21, 23);
+    if opc1 == 7 {
+        let known = mark_system(kr, k, op);
         return Seen {
-            controls,
+            controls: system(r, x, op),
             known,
-            next: Next::Last,
+            next: Next::On,
+        };
+    }
+    if opc1 == 0 {
+        mark_single_core(ks, kr, op);
+        if single_core(s, r, false, op) {
+            return Seen {
+                controls: x,
+                known: k,
+                next: Next::Last,
+            };
+        }
+        return Seen {
+            controls: x,
+            known: k,
+            next: Next::On,
         };
     }
     Seen {
-        controls,
-        known,
+        controls: x,
+        known: k,
         next: Next::On,
     }
 }
