@@ -1,7 +1,8 @@
 // VFPv2's short vectors.
 ghost use mathlib.Core.Path.{_≡_};
-ghost use mathlib.Core.Logic.{_⊎_};
-ghost use Prim.Native.Nat.{_<_, _≤_, _^_};
+ghost use mathlib.Core.Bool.{cond};
+ghost use lib.Dec.{ltb};
+ghost use Prim.Native.Nat.{_≤_};
 ghost use Rattle.processing.specs.Vector.{precision, bankOf, iterationsOf, strideOf, stepOf, secondOf, Vectored, Steps};
 
 pub struct Vector {
@@ -14,20 +15,12 @@ impl Vector {
     pub fn new(control: u32, double: bool, destination: usize) -> Vector
         ensures { λ v. ⌜ Vectored (precision double) control destination v ⌝ }
     {
-        let bank = bank_of(double);
-        let stride = stride_of(control);
-        let length = (control / 0x1_0000 % 8 + 1) as usize;
-        if destination < bank {
-            return Vector {
-                iterations: 1,
-                stride,
-                bank,
-            };
-        }
+        let more = (control / 0x1_0000 % 8) as usize;
+        let steps = beyond(destination, double);
         Vector {
-            iterations: length,
-            stride,
-            bank,
+            iterations: 1 + more * steps,
+            stride: stride_of(control),
+            bank: bank_of(double),
         }
     }
 
@@ -51,6 +44,19 @@ impl Vector {
         }
         self.step(register, iteration)
     }
+}
+
+// 1 for a register beyond bank 0, else 0. It is reckoned and not tested: a branch on it is mispredicted where a program uses both.
+fn beyond(register: usize, double: bool) -> usize
+    ensures { λ r. ⌜ (r ≡ cond (ltb register (bankOf (precision double))) 0 1) × (r ≤ 1) ⌝ }
+{
+    if register >= 32 {
+        return 1;
+    }
+    if double {
+        return (register / 4 + 7) / 8;
+    }
+    (register / 8 + 7) / 8
 }
 
 // Registers in a bank.

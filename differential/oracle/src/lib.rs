@@ -198,6 +198,42 @@ pub fn run(cpu: &mut Cpu, call: Call, thumb: bool, word: u32, base: u32, state: 
     }
 }
 
+/// The run over a list by document 01's rules, each word by the Rust's own call, with canonical NaNs: the kind, and what the answer has.
+pub fn listed(cpu: &mut Cpu, list: &[u32], base: u32, thumb: bool, state: &mut [u32; STATE], window: &mut [u32]) -> (u32, [u32; 4]) {
+    let refused = if list.len() > 4096 { 1 } else { refusal(base, window.len()) };
+    if refused != 0 {
+        return (100 + refused, [0; 4]);
+    }
+    if thumb {
+        return (105, [0; 4]);
+    }
+    let mut count = 0;
+    for &word in list {
+        let coprocessor = word >> 8 & 15;
+        let load_store = word >> 25 & 7 == 6;
+        if word >> 28 == 15 || !matches!(coprocessor, 10 | 11) || !(load_store || word >> 24 & 15 == 14) {
+            return (1, [count, 0, 0, 0]);
+        }
+        if condition(word >> 28, state[51]) {
+            let call = match (load_store, word >> 4 & 1) {
+                (true, _) => Call::LoadStore,
+                (false, 1) => Call::Wrapper,
+                _ => Call::DataProcessing,
+            };
+            let out = run(cpu, call, false, word, base, state, window);
+            assert!(!out.moved, "another part of the Cpu moved");
+            match out.kind {
+                0 => {}
+                3 => return (3, [count + 1, 0, 0, 0]),
+                kind => return (kind, [count, 0, out.address, out.word]),
+            }
+        }
+        count += 1;
+        state[47] = state[47].wrapping_add(4);
+    }
+    (0, [count, 0, 0, 0])
+}
+
 /// The Rust's calls over a list by document 01's rules, on a Cpu as it stands and in ARM state: the answer of the C interface. This is
 /// the loop that the plain run is timed against: nothing is copied per word, and NaNs are left as they come.
 pub fn run_list(cpu: &mut Cpu, window: &mut [u32], base: u32, list: &[u32]) -> [u32; 4] {

@@ -4,45 +4,6 @@ use oracle::cases::{self, Random};
 use oracle::{Call, Cpu, STATE};
 use std::time::Instant;
 
-/// How a run ends: the kind, and what the answer has.
-type Ended = (u32, [u32; 4]);
-
-/// the run over a list by document 01's rules, each word by the Rust's own call.
-fn theirs(cpu: &mut Cpu, list: &[u32], base: u32, thumb: bool, state: &mut [u32; STATE], window: &mut [u32]) -> Ended {
-    let refused = if list.len() > 4096 { 1 } else { oracle::refusal(base, window.len()) };
-    if refused != 0 {
-        return (100 + refused, [0; 4]);
-    }
-    if thumb {
-        return (105, [0; 4]);
-    }
-    let mut count = 0;
-    for &word in list {
-        let coprocessor = word >> 8 & 15;
-        let load_store = word >> 25 & 7 == 6;
-        if word >> 28 == 15 || !matches!(coprocessor, 10 | 11) || !(load_store || word >> 24 & 15 == 14) {
-            return (1, [count, 0, 0, 0]);
-        }
-        if oracle::condition(word >> 28, state[51]) {
-            let call = match (load_store, word >> 4 & 1) {
-                (true, _) => Call::LoadStore,
-                (false, 1) => Call::Wrapper,
-                _ => Call::DataProcessing,
-            };
-            let out = oracle::run(cpu, call, false, word, base, state, window);
-            assert!(!out.moved, "another part of the Cpu moved");
-            match out.kind {
-                0 => {}
-                3 => return (3, [count + 1, 0, 0, 0]),
-                kind => return (kind, [count, 0, out.address, out.word]),
-            }
-        }
-        count += 1;
-        state[47] = state[47].wrapping_add(4);
-    }
-    (0, [count, 0, 0, 0])
-}
-
 /// a word that a run takes, now and then one that it does not.
 fn word(r: &mut Random, turn: u64) -> u32 {
     let (call, any) = cases::word(r, turn);
@@ -86,7 +47,7 @@ fn main() {
         }
         let thumb = r.once_in(200);
         let (mut a, mut b, mut v, mut w) = (state, state, window.clone(), window.clone());
-        let (kind, answer) = theirs(&mut cpu, &list, base, thumb, &mut a, &mut v);
+        let (kind, answer) = oracle::listed(&mut cpu, &list, base, thumb, &mut a, &mut v);
         let mut ours = [0xA5A5_A5A5; 4];
         let got = fpu::raw::run(&mut b, &mut w, base, thumb as u32, &list, &mut ours);
         kinds[kind as usize & 255] += 1;
