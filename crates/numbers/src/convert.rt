@@ -6,6 +6,7 @@ ghost use Rattle.numbers.specs.Convert.{Lifted, IsNarrowed, narrow, wide
 use super::flush::flush32;
 use super::rounding::Rounding;
 use super::rounding::Settled32;
+use super::rounding::cut;
 use super::rounding::settle32;
 use super::rounding::sign32;
 
@@ -71,10 +72,17 @@ pub fn narrowed32(mode: Rounding, b: u64) -> Settled32
     )
 }
 
-// The nearest single, flushed as a single.
+// The nearest single, flushed as a single. Where a normal double becomes a normal single, or an infinity, its pattern is cut as it stands.
 pub fn narrow(control: u32, b: u64) -> u32
     ensures { λ r. ⌜ r ≡ narrow control b ⌝ }
 {
+    let size = b % 0x8000_0000_0000_0000;
+    if size >= 0x3810_0000_0000_0000 {
+        if size < 0x47F0_0000_0000_0000 {
+            let c = cut(Rounding::Nearest, false, size - 0x3800_0000_0000_0000, 29);
+            return (b / 0x8000_0000_0000_0000 * 0x8000_0000 + c.kept) as u32;
+        }
+    }
     let r = narrowed32(Rounding::Nearest, b);
     flush32(control, r.bits)
 }
