@@ -24,20 +24,20 @@ pub fn widen(b: u32) -> u64
 {
     let w = b as u64;
     let sign = w / 0x8000_0000 * 0x8000_0000_0000_0000;
-    let field = w % 0x8000_0000 / 0x80_0000;
-    let t = w % 0x80_0000;
-    if field == 255 {
-        if t == 0 {
+    let size = w % 0x8000_0000;
+    if size >= 0x7F80_0000 {
+        if size == 0x7F80_0000 {
             return sign + 0x7FF0_0000_0000_0000;
         }
         return 0x7FF8_0000_0000_0000;
     }
-    if field > 0 {
-        return sign + ((field + 895) * 0x10_0000_0000_0000 + (0x80_0000 + t) * 0x2000_0000);
+    if size >= 0x80_0000 {
+        return sign + (size * 0x2000_0000 + 0x3800_0000_0000_0000);
     }
-    if t == 0 {
+    if size == 0 {
         return sign;
     }
+    let t = w % 0x80_0000;
     let up = lift(t);
     sign + ((925 - up) * 0x10_0000_0000_0000 + (t << up))
 }
