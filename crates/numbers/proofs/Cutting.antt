@@ -3,19 +3,20 @@ use mathlib.Core.Path.{_≡_, refl, sym, ap, _∙_, subst}
 use mathlib.Core.Logic.{_⊎_, inl, inr}
 use mathlib.Core.Bool.{Bool, true, false, not, _||_, cond}
 use Prim.Native.Nat.{ℕ, zero, suc, _+_, _-_, _*_, _/_, _%_, _^_, _≤_, _<_, min, compare, Ordering, Ordering·lt, Ordering·eq, Ordering·gt}
-use native.Mathlib.Nat.{le-trans, le-refl, le-suc, lt-of-lt-of-le, zero-lt-suc, one-mul, zero-mul, add-mul, mul-comm, mul-right-comm, mul-pos, div-add-mod', mod-eq-of-lt, div-eq-of-lt, mod-lt, min-eq-left, min-eq-right, lt-of-not-le}
-use native.Mathlib.Decide.{decLe}
+use native.Mathlib.Nat.{le-trans, le-of-eq, le-refl, le-suc, le-antisymm, le-of-suc-le-suc, lt-of-lt-of-le, suc-mul, add-zero, div-lt-iff-lt-mul, le-div-iff-mul-le, zero-lt-suc, one-mul, zero-mul, add-mul, mul-comm, mul-right-comm, mul-pos, div-add-mod', mod-eq-of-lt, div-eq-of-lt, mod-lt, min-eq-left, min-eq-right, lt-of-not-le}
+use native.Mathlib.Decide.{decLe, decLt}
 use native.Mathlib.Numerals.{add-one, one-add}
 use native.Mathlib.Omega.{arith}
 use lib.Dec.{T, eqb, eqb→eq, lit<}
-use lib.Pow.{pow-pos, pow-mono, shr-lt, shl-exact}
+use lib.Pow.{pow-add, pow-pos, pow-mono, shr-lt, shl-exact}
+use lib.Ieee.{nearest}
 use lib.Ieee.Fits.{nearest-le, eq→eqb}
 use lib.Ieee.Nearest.{nearest-ge, div-same}
 use borrow.Author.Tests.{eq-eqb, ne-eqb}
-use Rattle.numbers.specs.Rounding.{roundingOf, move, cutTo, IsCut}
+use Rattle.numbers.specs.Rounding.{roundingOf, move, cutTo, leadIn, IsCut}
 use Rattle.numbers.specs.declared.rounding.Rounding.{Rounding}
 use Rattle.numbers.specs.declared.rounding.Rounding.the-variants.{Nearest, Up, Down, Zero}
-use Rattle.numbers.proofs.Order.{compare-scale, compare-is}
+use Rattle.numbers.proofs.Order.{Cmp, cmp, compare-scale, compare-is}
 
 -- ---- the mode of a control word
 
@@ -61,6 +62,12 @@ move-le Nearest s q o x = nearest-le q o
 move-le Up s q o x = either-le (s || x) q
 move-le Down s q o x = either-le (not s || x) q
 move-le Zero s q o x = le-suc q
+
+pub cut-ge : (mode : Rounding) (s : Bool) (m u : ℕ) → m / u ≤ cutTo mode s m u
+cut-ge mode s m u = move-ge mode s (m / u) (compare (m % u * 2) u) (eqb (m % u) 0)
+
+pub cut-le : (mode : Rounding) (s : Bool) (m u : ℕ) → cutTo mode s m u ≤ suc (m / u)
+cut-le mode s m u = move-le mode s (m / u) (compare (m % u * 2) u) (eqb (m % u) 0)
 
 -- ---- equal fractions are cut alike
 
@@ -219,3 +226,128 @@ cut-is mode s m u sh kept x e p q = record {
   kept-is = p ∙ ap (cutTo mode s m) e;
   exact-is = q ∙ ap (λ (z : ℕ). eqb (m % z) 0) e;
 }
+
+-- ---- by one sum
+
+module _ (m u : ℕ) (U : 0 < u) where
+  quotient : (x c : ℕ) → c * u ≤ x → x < suc c * u → x / u ≡ c
+  quotient x c h l = le-antisymm (le-of-suc-le-suc (div-lt-iff-lt-mul U .1 l)) (le-div-iff-mul-le U .1 h)
+
+  stays : (lead : ℕ) → m % u + lead < u → (m + lead) / u ≡ m / u
+  stays lead h = quotient (m + lead) (m / u) (sums (m / u * u) (div-add-mod' m u) .0) (lt-of-lt-of-le (sums (m / u * u) (div-add-mod' m u) .1) (le-of-eq (sym (suc-mul (m / u) u))))
+    where
+      sums : (p : ℕ) → p + m % u ≡ m → (p ≤ m + lead) × (m + lead < p + u)
+      sums p e = (omega arith, omega arith)
+
+  goes : (lead : ℕ) → lead < u → u ≤ m % u + lead → (m + lead) / u ≡ suc (m / u)
+  goes lead l h =
+      quotient (m + lead) (suc (m / u)) (le-trans (le-of-eq (suc-mul (m / u) u)) (sums (m / u * u) (div-add-mod' m u) (mod-lt m U) .0))
+      (lt-of-lt-of-le (sums (m / u * u) (div-add-mod' m u) (mod-lt m U) .1) (le-of-eq (sym (suc-mul (suc (m / u)) u ∙ ap (λ (z : ℕ). z + u) (suc-mul (m / u) u)))))
+    where
+      sums : (p : ℕ) → p + m % u ≡ m → m % u < u → (p + u ≤ m + lead) × (m + lead < p + u + u)
+      sums p e r = (omega arith, omega arith)
+
+pub lead-lt : (mode : Rounding) (s : Bool) (m u : ℕ) → 2 ≤ u → leadIn mode s m u < u
+lead-lt Nearest s m u h = half (m / u % 2) u h (mod-lt (m / u) (lit< tt))
+  where
+    half : (b u : ℕ) → 2 ≤ u → b < 2 → u / 2 - 1 + b < u
+    half b u h l = omega arith
+lead-lt Up true m u h = omega arith
+lead-lt Up false m u h = omega arith
+lead-lt Down true m u h = omega arith
+lead-lt Down false m u h = omega arith
+lead-lt Zero s m u h = omega arith
+
+module _ (m h : ℕ) (H : 0 < h) where
+  abbrev u : ℕ
+  u = 2 * h
+
+  abbrev r : ℕ
+  r = m % u
+
+  U : 0 < u
+  U = omega arith
+
+  half : u / 2 ≡ h
+  half = omega arith
+
+  by-half : (o : Ordering) → Cmp o (r * 2) u → (m + (u / 2 - 1 + m / u % 2)) / u ≡ nearest (m / u) o
+  by-half Ordering·lt c = stays m u U (u / 2 - 1 + m / u % 2) (less r (m / u % 2) c (mod-lt (m / u) (lit< tt)))
+    where
+      less : (r b : ℕ) → r * 2 < u → b < 2 → r + (u / 2 - 1 + b) < u
+      less r b c l = omega arith
+  by-half Ordering·gt c = goes m u U (u / 2 - 1 + m / u % 2) (lead-lt Nearest true m u (two h H)) (more r (m / u % 2) c)
+    where
+      two : (h : ℕ) → 0 < h → 2 ≤ 2 * h
+      two h p = omega arith
+
+      more : (r b : ℕ) → u < r * 2 → u ≤ r + (u / 2 - 1 + b)
+      more r b c = omega arith
+  by-half Ordering·eq c = go (decLt (m / u % 2) 1)
+    where
+      low : (r b : ℕ) → r * 2 ≡ u → b < 1 → (r + (u / 2 - 1 + b) < u) × (b ≡ 0)
+      low r b c l = (omega arith, omega arith)
+
+      high : (r b : ℕ) → r * 2 ≡ u → 1 ≤ b → b < 2 → (u / 2 - 1 + b < u) × (u ≤ r + (u / 2 - 1 + b)) × (b ≡ 1)
+      high r b c l g = (omega arith, omega arith, omega arith)
+
+      same : (q b : ℕ) → b ≡ 0 → q ≡ q + b
+      same q b e = omega arith
+
+      next : (q b : ℕ) → b ≡ 1 → suc q ≡ q + b
+      next q b e = omega arith
+
+      go : Dec (m / u % 2 < 1) → (m + (u / 2 - 1 + m / u % 2)) / u ≡ m / u + m / u % 2
+      go (yes l) = let w = low r (m / u % 2) c l in stays m u U (u / 2 - 1 + m / u % 2) (w .0) ∙ same (m / u) (m / u % 2) (w .1)
+      go (no n) =
+          let w = high r (m / u % 2) c (le-of-suc-le-suc (lt-of-not-le n)) (mod-lt (m / u) (lit< tt)) in
+          goes m u U (u / 2 - 1 + m / u % 2) (w .0) (w .1) ∙ next (m / u) (m / u % 2) (w .2)
+
+  -- away from zero, unless nothing is left
+  away-by-sum : (m + (u - 1)) / u ≡ cond (eqb r 0) (m / u) (suc (m / u))
+  away-by-sum = go (decLt r 1)
+    where
+      none : (r u : ℕ) → 0 < u → r < 1 → (r + (u - 1) < u) × (r ≡ 0)
+      none r u p l = (omega arith, omega arith)
+
+      some : (r u : ℕ) → 0 < u → 1 ≤ r → (u - 1 < u) × (u ≤ r + (u - 1))
+      some r u p l = (omega arith, omega arith)
+
+      zero-not : (r : ℕ) → 1 ≤ r → r ≡ 0 → ⊥
+      zero-not r l e = omega arith
+
+      go : Dec (r < 1) → (m + (u - 1)) / u ≡ cond (eqb r 0) (m / u) (suc (m / u))
+      go (yes l) = let w = none r u U l in stays m u U (u - 1) (w .0) ∙ ap (λ (t : Bool). cond t (m / u) (suc (m / u))) (sym (eq-eqb r 0 (w .1)))
+      go (no n) =
+          let l : 1 ≤ r = le-of-suc-le-suc (lt-of-not-le n) in
+          let w = some r u U l in
+          goes m u U (u - 1) (w .0) (w .1) ∙ ap (λ (t : Bool). cond t (m / u) (suc (m / u))) (sym (ne-eqb r 0 (zero-not r l)))
+
+  same-quotient : (m + 0) / u ≡ m / u
+  same-quotient = ap (λ (z : ℕ). z / u) (add-zero m)
+
+  pub cut-by-sum : (mode : Rounding) (s : Bool) → (m + leadIn mode s m u) / u ≡ cutTo mode s m u
+  cut-by-sum Nearest s = by-half (compare (r * 2) u) (cmp (r * 2) u)
+  cut-by-sum Up true = same-quotient
+  cut-by-sum Up false = away-by-sum
+  cut-by-sum Down true = away-by-sum
+  cut-by-sum Down false = same-quotient
+  cut-by-sum Zero s = same-quotient
+
+pub lead-is : (mode t : Rounding) (s b : Bool) (m u : ℕ) → mode ≡ t → s ≡ b → leadIn t b m u ≡ leadIn mode s m u
+lead-is mode t s b m u e d = sym (ap (λ (z : Rounding). leadIn z s m u) e ∙ ap (λ (z : Bool). leadIn t z m u) d)
+
+module _ (u sh : ℕ) (e : u ≡ 2 ^ sh) where
+  pub unit-least : 0 < sh → 2 ≤ u
+  unit-least h = subst (λ (z : ℕ). 2 ≤ z) (sym e) (pow-mono {i = 1} h)
+
+  pub unit-most : sh < 64 → u ≤ 2 ^ 63
+  unit-most h = subst (λ (z : ℕ). z ≤ 2 ^ 63) (sym e) (pow-mono {j = 63} (le-of-suc-le-suc h))
+
+  pub sum-is : (mode : Rounding) (s : Bool) (m lead : ℕ) → 0 < sh → lead ≡ leadIn mode s m u → (m + lead) / u ≡ cutTo mode s m u
+  sum-is mode s m lead h l =
+      ap (λ (z : ℕ). (m + z) / u) l
+      ∙ subst (λ (z : ℕ). (m + leadIn mode s m z) / z ≡ cutTo mode s m z) (sym (e ∙ ap (λ (z : ℕ). 2 ^ z) (one-more sh h) ∙ pow-add 2 1 (sh - 1))) (cut-by-sum m (2 ^ (sh - 1)) (pow-pos (sh - 1)) mode s)
+    where
+      one-more : (n : ℕ) → 0 < n → n ≡ 1 + (n - 1)
+      one-more n h = omega arith

@@ -14,6 +14,7 @@ pub mod Whole
 pub mod Squares
 pub mod RootDigits
 pub mod Sqrt
+pub mod RootNear
 pub mod Formed
 pub mod Laws
 pub mod Sight

@@ -1,22 +1,25 @@
 -- Narrowing a value to a format. Assumes nothing.
-use mathlib.Core.Path.{_≡_, refl, sym, ap, _∙_}
-use mathlib.Core.Bool.{Bool, true, cond}
-use Prim.Native.Nat.{ℕ, _+_, _-_, _*_, _/_, _%_, _^_, _<_}
-use native.Mathlib.Nat.{mul-assoc}
+use mathlib.Core.Path.{_≡_, refl, sym, ap, _∙_, subst}
+use mathlib.Core.Logic.{inr}
+use mathlib.Core.Bool.{Bool, true, false, cond}
+use Prim.Native.Nat.{ℕ, _+_, _-_, _*_, _/_, _%_, _^_, _≤_, _<_, min}
+use native.Mathlib.Nat.{le-trans, le-of-eq, mul-assoc, min-eq-left}
 use native.Mathlib.Omega.{arith}
-use lib.Dec.{leb}
+use lib.Dec.{leb, lit<}
 use lib.Pow.{pow-add, pow-pos}
 use lib.Ieee.{Float, nan, inf, fin, Format, binary32, binary64, up, down, hid, ones, top, ofBits, toBits}
 use lib.Ieee.Fits.{down-pos}
 use lib.Ieee.Exact.{HasValue}
 use Rattle.numbers.specs.Flush.{flush}
-use Rattle.numbers.specs.Rounding.{rounded, exactly, IsSettled}
+use Rattle.numbers.specs.Rounding.{rounded, exactly, cutTo, packed, IsCut, IsSettled}
 use Rattle.numbers.specs.Convert.{narrowed, narrowsExactly, narrow, IsNarrowed}
 use Rattle.numbers.specs.declared.rounding.Rounding.{Rounding}
 use Rattle.numbers.specs.declared.rounding.Rounding.the-variants.{Nearest}
-use Rattle.numbers.proofs.Units.{slide, reads-low, reads-normal, reads-inf}
+use Rattle.numbers.proofs.Units.{slide, sign-bit, reads-low, reads-normal, reads-inf}
 use Rattle.numbers.proofs.Patterns.{nan-of-fields}
-use Rattle.numbers.proofs.Written.{rounded-same, exactly-same}
+use Rattle.numbers.proofs.Written.{rounded-same, exactly-same, rounded-bits}
+use Rattle.numbers.proofs.Cutting.{cut-ge, cut-le, cut-by-sum}
+use Rattle.numbers.proofs.Flushing.{flush-large}
 use Rattle.numbers.proofs.Settle.{settled-same}
 
 -- ---- by the value's size a / c
@@ -89,3 +92,94 @@ narrow-mid mode f b bits t n l p =
 pub narrow-is : (control b bits r : ℕ) (t : Bool) → IsNarrowed Nearest binary32 (ofBits binary64 b) bits t → r ≡ flush binary32 control bits → r ≡ narrow control b
 unfolding narrow
 narrow-is control b bits r t p e = e ∙ ap (flush binary32 control) (p .bits-are)
+
+-- ---- a normal single, or what is too large for one, from the double's pattern as it stands
+
+module _ (X kept : ℕ) (t : Bool) (p : IsCut Nearest false X (2 ^ 29) kept t) where
+  pub kept-most : X < 0x0FF0_0000_0000_0000 → kept ≤ 0x7F80_0000
+  kept-most h = le-trans (le-of-eq (p .kept-is)) (le-trans (cut-le Nearest false X (2 ^ 29)) (high X h))
+    where
+      high : (x : ℕ) → x < 0x0FF0_0000_0000_0000 → x / 2 ^ 29 < 0x7F80_0000
+      high x h = omega arith
+
+  kept-least : 2 ^ 52 ≤ X → 2 ^ 23 ≤ kept
+  kept-least h = le-trans (le-trans (low X h) (cut-ge Nearest false X (2 ^ 29))) (le-of-eq (sym (p .kept-is)))
+    where
+      low : (x : ℕ) → 2 ^ 52 ≤ x → 2 ^ 23 ≤ x / 2 ^ 29
+      low x h = omega arith
+
+  -- the field's part is even after the cut, and goes through it
+  apart : (s : Bool) (k m : ℕ) → X ≡ k * 2 ^ 52 + m → kept ≡ k * 2 ^ 23 + cutTo Nearest s m (2 ^ 29)
+  apart s k m e =
+      p .kept-is
+      ∙ sym (cut-by-sum X (2 ^ 28) (lit< tt) Nearest false)
+      ∙ ap (λ (x : ℕ). (x + (2 ^ 28 - 1 + x / 2 ^ 29 % 2)) / 2 ^ 29) e
+      ∙ split k m
+      ∙ ap (λ (x : ℕ). k * 2 ^ 23 + x) (cut-by-sum m (2 ^ 28) (lit< tt) Nearest s)
+    where
+      parity : (k m : ℕ) → (k * 2 ^ 52 + m) / 2 ^ 29 % 2 ≡ m / 2 ^ 29 % 2
+      parity k m = omega arith
+
+      over : (k m c : ℕ) → (k * 2 ^ 52 + m + c) / 2 ^ 29 ≡ k * 2 ^ 23 + (m + c) / 2 ^ 29
+      over k m c = omega arith
+
+      split : (k m : ℕ) → (k * 2 ^ 52 + m + (2 ^ 28 - 1 + (k * 2 ^ 52 + m) / 2 ^ 29 % 2)) / 2 ^ 29 ≡ k * 2 ^ 23 + (m + (2 ^ 28 - 1 + m / 2 ^ 29 % 2)) / 2 ^ 29
+      split k m = ap (λ (z : ℕ). (k * 2 ^ 52 + m + (2 ^ 28 - 1 + z)) / 2 ^ 29) (parity k m) ∙ over k m (2 ^ 28 - 1 + m / 2 ^ 29 % 2)
+
+module _ (b : ℕ) (h : 0x3810_0000_0000_0000 ≤ b % 0x8000_0000_0000_0000) (l : b % 0x8000_0000_0000_0000 < 0x47F0_0000_0000_0000) where
+  fields : (897 ≤ field b) × (field b < 1151)
+  fields = (omega arith, omega arith)
+
+  parts : b % 0x8000_0000_0000_0000 - 0x3800_0000_0000_0000 ≡ (field b - 897) * 2 ^ 52 + (2 ^ 52 + digits b)
+  parts = omega arith
+
+  normal-bits : toBits binary32 (narrowed Nearest binary32 (ofBits binary64 b)) ≡ packed Nearest binary32 (neg b) (field b - 897) (cutTo Nearest (neg b) (2 ^ 52 + digits b) (2 ^ 29))
+  normal-bits =
+      let m = 2 ^ 52 + digits b in
+      ap (toBits binary32) (narrowed-value Nearest binary32 (ofBits binary64 b) (neg b) (m * 2 ^ (field b - 1)) (2 ^ 1074) (pow-pos 1074) (reads-normal binary64 b (some (field b) (fields .0)) (few (field b) (fields .1))))
+      ∙ rounded-bits Nearest binary32 (neg b) (m * 2 ^ (field b - 1)) (2 ^ 1074) (field b - 897) m (2 ^ 29) (pow-pos 1074) (pow-pos 29) (scale m (field b) (fields .0)) (under b) (inr (lead b))
+    where
+      some : (x : ℕ) → 897 ≤ x → x ≡ 0 → ⊥
+      some x g e = omega arith
+
+      few : (x : ℕ) → x < 1151 → x ≡ 2047 → ⊥
+      few x g e = omega arith
+
+      exps : (x : ℕ) → 897 ≤ x → x - 1 + 149 + 29 ≡ 1074 + (x - 897)
+      exps x g = omega arith
+
+      scale : (m x : ℕ) → 897 ≤ x → m * 2 ^ (x - 1) * 2 ^ 149 * 2 ^ 29 ≡ m * (2 ^ 1074 * 2 ^ (x - 897))
+      scale m x g =
+          ap (λ (z : ℕ). z * 2 ^ 29) (mul-assoc m (2 ^ (x - 1)) (2 ^ 149) ∙ ap (λ (z : ℕ). m * z) (sym (pow-add 2 (x - 1) 149)))
+          ∙ slide m (x - 1 + 149) 29 1074 (x - 897) (exps x g)
+          ∙ mul-assoc m (2 ^ 1074) (2 ^ (x - 897))
+
+      under : (b : ℕ) → (2 ^ 52 + digits b) / 2 ^ 29 < 2 ^ 24
+      under b = omega arith
+
+      lead : (b : ℕ) → 2 ^ 23 ≤ (2 ^ 52 + digits b) / 2 ^ 29
+      lead b = omega arith
+
+  pub narrow-normal : (control kept r : ℕ) (t : Bool) → b < 2 ^ 64 → IsCut Nearest false (b % 0x8000_0000_0000_0000 - 0x3800_0000_0000_0000) (2 ^ 29) kept t
+      → r ≡ b / 0x8000_0000_0000_0000 * 0x8000_0000 + kept → r ≡ narrow control b
+  unfolding narrow
+  narrow-normal control kept r t w p e =
+      let X = b % 0x8000_0000_0000_0000 - 0x3800_0000_0000_0000 in
+      let most = kept-most X kept t p (upper b l) in
+      let least = kept-least X kept t p (lower b h) in
+      let is = apart X kept t p (neg b) (field b - 897) (2 ^ 52 + digits b) parts in
+      flush-large binary32 control r (subst (λ (z : ℕ). 2 ^ 23 ≤ z) (sym (rest (b / 0x8000_0000_0000_0000) kept r e most)) least)
+      ∙ ap (flush binary32 control)
+      (e
+      ∙ ap (λ (z : ℕ). z + kept) (sign-bit 0x8000_0000_0000_0000 b 0x8000_0000 (lit< tt) w)
+      ∙ ap (λ (z : ℕ). cond (neg b) 0x8000_0000 0 + z) (sym (min-eq-left most) ∙ ap (λ (z : ℕ). min z 0x7F80_0000) is)
+      ∙ sym normal-bits)
+    where
+      upper : (b : ℕ) → b % 0x8000_0000_0000_0000 < 0x47F0_0000_0000_0000 → b % 0x8000_0000_0000_0000 - 0x3800_0000_0000_0000 < 0x0FF0_0000_0000_0000
+      upper b l = omega arith
+
+      lower : (b : ℕ) → 0x3810_0000_0000_0000 ≤ b % 0x8000_0000_0000_0000 → 2 ^ 52 ≤ b % 0x8000_0000_0000_0000 - 0x3800_0000_0000_0000
+      lower b h = omega arith
+
+      rest : (s kept r : ℕ) → r ≡ s * 0x8000_0000 + kept → kept ≤ 0x7F80_0000 → r % 0x8000_0000 ≡ kept
+      rest s kept r e h = omega arith

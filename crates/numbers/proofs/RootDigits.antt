@@ -96,7 +96,7 @@ same-eqb a b c d f g = go (eqb a b) (eqb c d) (λ t. eq→eqb (f (eqb→eq a b t
 whole-root : (n q r : ℕ) → IsRoot n q r → isqrt n ≡ q
 whole-root n q r h = isqrt-unique n q (at-most q r n (h .sum)) (next-square q r n (h .sum) (h .least))
 
-rounds : (mode : Rounding) (n q r : ℕ) → IsRoot n q r → move mode false q (compare (r * 2 * 2) (q * 4 + 1)) (eqb (r * 2) 0) ≡ rootCut mode n 1
+pub rounds : (mode : Rounding) (n q r : ℕ) → IsRoot n q r → move mode false q (compare (r * 2 * 2) (q * 4 + 1)) (eqb (r * 2) 0) ≡ rootCut mode n 1
 rounds mode n q r h =
     let is : isqrt (n / 1) ≡ q = ap isqrt (div-one n) ∙ whole-root n q r h in
     ap (λ (o : Ordering). move mode false q o (eqb (r * 2) 0)) (sym (compare-is (compare (r * 2 * 2) (q * 4 + 1)) (4 * n) ((2 * q + 1) * (2 * q + 1)) (scaled (compare (r * 2 * 2) (q * 4 + 1)) q r n (h .sum) (cmp (r * 2 * 2) (q * 4 + 1)))))

@@ -1,24 +1,26 @@
 -- Integers to floats, and floats to integers. Assumes nothing.
 use mathlib.Core.Path.{_≡_, refl, sym, ap, _∙_, subst}
+use mathlib.Core.Logic.{inr}
 use mathlib.Core.Bool.{Bool, true, false, _&&_, cond}
 use Prim.Native.Nat.{ℕ, _+_, _-_, _*_, _/_, _%_, _^_, _≤_, _<_, min}
-use native.Mathlib.Nat.{le-trans, lt-of-lt-of-le, mul-one, mul-assoc, mul-le-mul, mod-eq-of-lt, le-div-iff-mul-le}
+use native.Mathlib.Nat.{le-trans, le-of-eq, le-of-lt, lt-of-lt-of-le, one-mul, mul-one, min-eq-left, mul-assoc, mul-le-mul, mod-eq-of-lt, le-div-iff-mul-le}
 use native.Mathlib.Omega.{arith}
-use lib.Dec.{leb, lit≤, lit<}
+use lib.Dec.{leb, ltb, eqb, lit≤, lit<}
 use lib.Pow.{pow-add, pow-pos, pow-mono}
 use lib.Ieee.{Float, nan, inf, fin, Format, binary32, binary64, up, down, top, ofBits, toBits}
 use lib.Ieee.Fits.{down-pos, fits-widens}
 use lib.Ieee.Bits.{ofBits-toBits, ofBits-fits}
 use lib.Ieee.Exact.{HasValue}
-use borrow.Author.Tests.{le-leb, lt-leb}
-use Rattle.numbers.specs.Rounding.{cutTo, rounded, IsCut, IsSettled}
+use borrow.Author.Tests.{le-leb, lt-leb, lt-ltb}
+use Rattle.numbers.specs.Rounding.{cutTo, rounded, ceiling, IsCut, IsSettled}
 use Rattle.numbers.specs.Integer.{fromInteger, clamped, integerOf, toInteger}
 use Rattle.numbers.specs.Convert.{widen, Lifted}
 use Rattle.numbers.specs.declared.rounding.Rounding.{Rounding}
 use Rattle.numbers.specs.declared.rounding.Rounding.the-variants.{Nearest}
-use Rattle.numbers.proofs.Units.{reads-low, reads-normal, reads-inf}
+use Rattle.numbers.proofs.Units.{slide, reads-low, reads-normal, reads-inf}
 use Rattle.numbers.proofs.Patterns.{nan-of-fields}
-use Rattle.numbers.proofs.Cutting.{move-ge, cut-same, cut-far}
+use Rattle.numbers.proofs.Cutting.{move-ge, cut-le, cut-same, cut-far}
+use Rattle.numbers.proofs.Written.{ceiling-ge, rounded-bits, exactly-is}
 use Rattle.numbers.proofs.Settle.{settled-same}
 
 -- ---- a whole number as a float, over the format
@@ -51,6 +53,55 @@ whole-ready n r l = (lower _ (subst (λ (z : ℕ). z < 2 ^ 53) (sym (moved-is n 
 
     upper : (z : ℕ) → 2 ^ 52 ≤ z → 2 ^ 61 ≤ z * 512
     upper z h = omega arith
+
+-- as a single: of the 53 digits 29 are dropped
+module _ (mode : Rounding) (s : Bool) (n r kept : ℕ) (x : Bool) (l : Lifted n r) (p : IsCut mode s (n * 2 ^ r % 2 ^ 64) (2 ^ 29) kept x) where
+  digits-few : (n * 2 ^ r / 2 ^ 29 < 2 ^ 24) × (2 ^ 23 ≤ n * 2 ^ r / 2 ^ 29)
+  digits-few = go (n * 2 ^ r) (l .below) (l .least)
+    where
+      go : (z : ℕ) → z < 2 ^ 53 → 2 ^ 52 ≤ z → (z / 2 ^ 29 < 2 ^ 24) × (2 ^ 23 ≤ z / 2 ^ 29)
+      go z h k = (omega arith, omega arith)
+
+  kept-is : kept ≡ cutTo mode s (n * 2 ^ r) (2 ^ 29)
+  kept-is = p .kept-is ∙ ap (λ (z : ℕ). cutTo mode s z (2 ^ 29)) (moved-is n r l)
+
+  pub kept-few : kept ≤ 2 ^ 24
+  kept-few = le-trans (le-of-eq kept-is) (le-trans (cut-le mode s (n * 2 ^ r) (2 ^ 29)) (digits-few .0))
+
+  small : (178 - r) * 0x80_0000 + kept < 0x7F7F_FFFF
+  small = go (178 - r) kept (most r) kept-few
+    where
+      most : (r : ℕ) → 178 - r ≤ 178
+      most r = omega arith
+
+      go : (k c : ℕ) → k ≤ 178 → c ≤ 2 ^ 24 → k * 0x80_0000 + c < 0x7F7F_FFFF
+      go k c h g = omega arith
+
+  scale : n * 2 ^ 149 * 2 ^ 29 ≡ n * 2 ^ r * (1 * 2 ^ (178 - r))
+  scale = slide n 149 29 r (178 - r) (exps r (l .most)) ∙ ap (λ (z : ℕ). n * 2 ^ r * z) (sym (one-mul (2 ^ (178 - r))))
+    where
+      exps : (r : ℕ) → r ≤ 52 → 149 + 29 ≡ r + (178 - r)
+      exps r h = omega arith
+
+  pub whole-cut : (sign : ℕ) → sign ≡ cond s 0x8000_0000 0 → IsSettled mode binary32 s n 1 (sign + ((178 - r) * 0x80_0000 + kept)) x
+  whole-cut sign e =
+      let least = le-trans (le-of-lt small) (ceiling-ge mode binary32 s) in
+      record {
+        bits-are =
+            ap (λ (z : ℕ). z + ((178 - r) * 0x80_0000 + kept)) e
+            ∙ ap (λ (z : ℕ). cond s 0x8000_0000 0 + z) (sym (min-eq-left least) ∙ ap (λ (z : ℕ). min ((178 - r) * 0x80_0000 + z) (ceiling mode binary32 s)) kept-is)
+            ∙ sym (rounded-bits mode binary32 s n 1 (178 - r) (n * 2 ^ r) (2 ^ 29) (lit< tt) (pow-pos 29) scale (digits-few .0) (inr (digits-few .1)));
+        exact-is =
+            p .exact-is
+            ∙ ap (λ (z : ℕ). eqb (z % 2 ^ 29) 0) (moved-is n r l)
+            ∙ and-true (eqb (n * 2 ^ r % 2 ^ 29) 0)
+            ∙ ap (λ (t : Bool). eqb (n * 2 ^ r % 2 ^ 29) 0 && t) (sym (lt-ltb ((178 - r) * 0x80_0000 + kept) 0x7F80_0000 (lt-of-lt-of-le small (lit≤ tt))) ∙ ap (λ (z : ℕ). ltb ((178 - r) * 0x80_0000 + z) 0x7F80_0000) kept-is)
+            ∙ sym (exactly-is mode binary32 s n 1 (178 - r) (n * 2 ^ r) (2 ^ 29) (lit< tt) (pow-pos 29) scale (digits-few .0) (inr (digits-few .1)));
+      }
+    where
+      and-true : (t : Bool) → t ≡ (t && true)
+      and-true true = refl
+      and-true false = refl
 
 -- ---- by the sign of a word
 

@@ -108,6 +108,20 @@ wide-mid b h p n = go (b % 0x8000_0000 / 0x80_0000 - 1) (back (b % 0x8000_0000 /
         (digits-lt (b % 0x80_0000) (rest b))
         (inr (digits-ge (b % 0x80_0000))))
 
+-- its pattern as it stands
+pub wide-normal : (b : ℕ) → b < 2 ^ 32 → 0x80_0000 ≤ b % 0x8000_0000 → b % 0x8000_0000 < 0x7F80_0000
+    → signed b + (b % 0x8000_0000 * 0x2000_0000 + 0x3800_0000_0000_0000) ≡ toBits binary64 (ofBits binary32 b)
+wide-normal b h g l = ap (λ (y : ℕ). signed b + y) (same b) ∙ wide-mid b h (some b g) (under b l)
+  where
+    same : (b : ℕ) → b % 0x8000_0000 * 0x2000_0000 + 0x3800_0000_0000_0000 ≡ (b % 0x8000_0000 / 0x80_0000 + 895) * 0x10_0000_0000_0000 + (0x80_0000 + b % 0x80_0000) * 0x2000_0000
+    same b = omega arith
+
+    some : (b : ℕ) → 0x80_0000 ≤ b % 0x8000_0000 → 0 < b % 0x8000_0000 / 0x80_0000
+    some b g = omega arith
+
+    under : (b : ℕ) → b % 0x8000_0000 < 0x7F80_0000 → b % 0x8000_0000 / 0x80_0000 ≡ 255 → ⊥
+    under b l e = omega arith
+
 pub wide-zero : (b : ℕ) → b < 2 ^ 32 → b % 0x8000_0000 / 0x80_0000 ≡ 0 → b % 0x80_0000 ≡ 0 → signed b ≡ toBits binary64 (ofBits binary32 b)
 wide-zero b h x t =
     signed-is b h

@@ -1,9 +1,9 @@
 -- The square root of a format's value, rounded by whole-number squares. Assumes nothing.
-use Prim.Native.Nat.{ℕ, zero, suc, _+_, _-_, _*_, _/_, _%_, _^_, _≤_, compare}
+use Prim.Native.Nat.{ℕ, zero, suc, _+_, _-_, _*_, _/_, _%_, _^_, _≤_, _<_, compare}
 use mathlib.Core.Path.{_≡_}
 use mathlib.Core.Logic.{_⊎_}
 use mathlib.Core.Bool.{Bool, false, cond}
-use lib.Dec.{leb, eqb}
+use lib.Dec.{leb, ltb, eqb}
 use lib.Ieee.{Float, nan, inf, fin, Format, low, up, down, size, ofBits, toBits}
 use Rattle.numbers.specs.Flush.{flush}
 use Rattle.numbers.specs.Rounding.{move, settled, dropped}
@@ -53,6 +53,15 @@ pub record IsRooted (mode : Rounding) (n steps kept : ℕ) (exact : Bool) : Type
   pub kept-is : kept ≡ rootCut mode n 1
   pub below : kept ≤ 2 ^ steps
   pub exact-is : exact ≡ eqb (isqrt n * isqrt n) n
+
+-- a normal value's digits, from y: its digits below the lowest bit of its exponent, and that bit above them. Where it is 0 the exponent is odd.
+abbrev pub radicand : ℕ → ℕ
+radicand y = cond (ltb y (2 ^ 52)) (y * 2 + 2 ^ 53) y
+
+-- the root of n to the nearest whole number, or 0 where it was not found
+pub record IsNearestRoot (n most r : ℕ) : Type 0 where
+  pub is : 0 < r → r ≡ rootCut Nearest n 1
+  pub below : r ≤ most
 
 -- ---- what a reader believes at sight: r is no further than a half from the root of n / u, and even where it is just a half away
 abbrev pub NearRoot : ℕ → ℕ → ℕ → Type 0

@@ -75,6 +75,13 @@ ceiling Zero f s = ones f * hid f - 1
 abbrev pub packed : Rounding → Format → Bool → ℕ → ℕ → ℕ
 packed mode f s k c = cond s (top f) 0 + min (k * hid f + c) (ceiling mode f s)
 
+-- what is added to m for its quotient by u, which is even, to be cutTo's
+abbrev pub leadIn : Rounding → Bool → ℕ → ℕ → ℕ
+leadIn Nearest s m u = u / 2 - 1 + m / u % 2
+leadIn Up s m u = cond s 0 (u - 1)
+leadIn Down s m u = cond s (u - 1) 0
+leadIn Zero s m u = 0
+
 pub record IsCut (mode : Rounding) (s : Bool) (m u kept : ℕ) (exact : Bool) : Type 0 where
   pub kept-is : kept ≡ cutTo mode s m u
   pub exact-is : exact ≡ eqb (m % u) 0

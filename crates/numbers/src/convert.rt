@@ -6,6 +6,7 @@ ghost use Rattle.numbers.specs.Convert.{Lifted, IsNarrowed, narrow, wide
 use super::flush::flush32;
 use super::rounding::Rounding;
 use super::rounding::Settled32;
+use super::rounding::cut;
 use super::rounding::settle32;
 use super::rounding::sign32;
 
@@ -23,20 +24,20 @@ pub fn widen(b: u32) -> u64
 {
     let w = b as u64;
     let sign = w / 0x8000_0000 * 0x8000_0000_0000_0000;
-    let field = w % 0x8000_0000 / 0x80_0000;
-    let t = w % 0x80_0000;
-    if field == 255 {
-        if t == 0 {
+    let size = w % 0x8000_0000;
+    if size >= 0x7F80_0000 {
+        if size == 0x7F80_0000 {
             return sign + 0x7FF0_0000_0000_0000;
         }
         return 0x7FF8_0000_0000_0000;
     }
-    if field > 0 {
-        return sign + ((field + 895) * 0x10_0000_0000_0000 + (0x80_0000 + t) * 0x2000_0000);
+    if size >= 0x80_0000 {
+        return sign + (size * 0x2000_0000 + 0x3800_0000_0000_0000);
     }
-    if t == 0 {
+    if size == 0 {
         return sign;
     }
+    let t = w % 0x80_0000;
     let up = lift(t);
     sign + ((925 - up) * 0x10_0000_0000_0000 + (t << up))
 }
@@ -71,10 +72,17 @@ pub fn narrowed32(mode: Rounding, b: u64) -> Settled32
     )
 }
 
-// The nearest single, flushed as a single.
+// The nearest single, flushed as a single. Where a normal double becomes a normal single, or an infinity, its pattern is cut as it stands.
 pub fn narrow(control: u32, b: u64) -> u32
     ensures { λ r. ⌜ r ≡ narrow control b ⌝ }
 {
+    let size = b % 0x8000_0000_0000_0000;
+    if size >= 0x3810_0000_0000_0000 {
+        if size < 0x47F0_0000_0000_0000 {
+            let c = cut(Rounding::Nearest, false, size - 0x3800_0000_0000_0000, 29);
+            return (b / 0x8000_0000_0000_0000 * 0x8000_0000 + c.kept) as u32;
+        }
+    }
     let r = narrowed32(Rounding::Nearest, b);
     flush32(control, r.bits)
 }

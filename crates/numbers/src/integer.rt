@@ -13,8 +13,9 @@ use super::rounding::cut;
 use super::rounding::least;
 use super::rounding::settle32;
 use super::rounding::settle64;
+use super::rounding::sign32;
 
-// A whole number as a single, rounded.
+// A whole number as a single, rounded. Of its 53 digits 29 are dropped, and it is never too large.
 pub fn whole32(mode: Rounding, negative: bool, n: u64) -> Settled32
     requires { ⌜ n < 2 ^ 53 ⌝ }
     ensures { λ r. ⌜ IsSettled mode binary32 negative n 1 (r .bits) (r .exact) ⌝ }
@@ -23,7 +24,11 @@ pub fn whole32(mode: Rounding, negative: bool, n: u64) -> Settled32
         return settle32(mode, negative, 0, 0);
     }
     let up = lift(n);
-    settle32(mode, negative, (n << up) * 512, 2200 - up)
+    let c = cut(mode, negative, n << up, 29);
+    Settled32 {
+        bits: (sign32(negative) + ((178 - up) * 0x80_0000 + c.kept)) as u32,
+        exact: c.exact,
+    }
 }
 
 // A whole number as a double.

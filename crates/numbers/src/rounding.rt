@@ -5,7 +5,7 @@ ghost use mathlib.Core.Bool.{cond, _&&_};
 ghost use Prim.Native.Nat.{_+_, _*_, _%_, _≤_, _<_, _^_, min, compare};
 ghost use lib.Dec.{eqb};
 ghost use lib.Ieee.{binary32, binary64};
-ghost use Rattle.numbers.specs.Rounding.{roundingOf, move, cutTo, ceiling, IsCut, IsPacked, IsSettled};
+ghost use Rattle.numbers.specs.Rounding.{roundingOf, move, cutTo, leadIn, ceiling, IsCut, IsPacked, IsSettled};
 
 // FPSCR 23:22.
 pub enum Rounding {
@@ -98,13 +98,30 @@ pub fn step(mode: Rounding, negative: bool, q: u64, rest: u64, unit: u64) -> Rou
     }
 }
 
+// What is added to m for its quotient by u, which is even, to be rounded by the mode: it carries where that is the next number.
+pub fn lead_in(mode: Rounding, negative: bool, m: u64, u: u64) -> u64
+    requires { ⌜ 2 ≤ u ⌝ }
+    ensures { λ r. ⌜ r ≡ leadIn mode negative m u ⌝ }
+{
+    match mode {
+        Rounding::Nearest => u / 2 - 1 + m / u % 2,
+        Rounding::Up => { if negative { 0 } else { u - 1 } }
+        Rounding::Down => { if negative { u - 1 } else { 0 } }
+        Rounding::Zero => 0,
+    }
+}
+
 // m / 2 ^ shift of the given sign, rounded to a whole number.
 pub fn cut(mode: Rounding, negative: bool, m: u64, shift: u64) -> Rounded
-    requires { ⌜ (m < 2 ^ 63) × (shift < 64) ⌝ }
+    requires { ⌜ (m < 2 ^ 63) × (0 < shift) × (shift < 64) ⌝ }
     ensures { λ r. ⌜ IsCut mode negative m (2 ^ shift) (r .kept) (r .exact) ⌝ }
 {
     let u = power(shift);
-    step(mode, negative, m / u, m % u, u)
+    let sum = m + lead_in(mode, negative, m, u);
+    Rounded {
+        kept: sum / u,
+        exact: m % u == 0,
+    }
 }
 
 // The last pattern of a single that a mode gives, without the sign.

@@ -1,5 +1,6 @@
+use Rattle.numbers.proofs.Widen.{wide-inf, wide-nan, wide-normal, wide-zero, wide-low}
 use Rattle.numbers.specs.Convert.{widen}
-use Rattle.numbers.proofs.Widen.{wide-inf, wide-nan, wide-mid, wide-zero, wide-low}
+use native.Mathlib.Omega.{arith}
 use borrow.Author.Needs.{needs}
 use Rattle.numbers.proofs.convert.widen.Statement.{statement}
 use Rattle.numbers.proofs.convert.widen.Tie as tie
@@ -12,37 +13,28 @@ add-result c = search needs
 
 returns : tie.Need-returns
 unfolding widen
-returns c = wide-inf (c .before .before .args .b) (c .before .before .fits .b .fits) (c .before .if1 .taken) (c .if2 .taken)
+returns c = wide-inf (c .before .before .args .b) (c .before .before .fits .b .fits) (omega arith) (omega arith)
 
 returns-2 : tie.Need-returns-2
 unfolding widen
-returns-2 c = wide-nan (c .before .before .args .b) (c .before .if1 .taken) (c .if2 .left)
-
-add-result-2 : tie.Need-add-result-2
-add-result-2 c = search needs
+returns-2 c = wide-nan (c .before .before .args .b) (omega arith) (λ e. c .if2 .left (omega arith))
 
 mul-result : tie.Need-mul-result
 mul-result c = search needs
 
+add-result-2 : tie.Need-add-result-2
+add-result-2 c = search needs
+
 add-result-3 : tie.Need-add-result-3
 add-result-3 c = search needs
 
-mul-result-2 : tie.Need-mul-result-2
-mul-result-2 c = search needs
-
-add-result-4 : tie.Need-add-result-4
-add-result-4 c = search needs
-
-add-result-5 : tie.Need-add-result-5
-add-result-5 c = search needs
-
 returns-3 : tie.Need-returns-3
 unfolding widen
-returns-3 c = wide-mid (c .before .before .args .b) (c .before .before .fits .b .fits) (c .if3 .taken) (c .before .if1 .left)
+returns-3 c = wide-normal (c .before .before .args .b) (c .before .before .fits .b .fits) (c .if3 .taken) (c .before .if1 .left)
 
 returns-4 : tie.Need-returns-4
 unfolding widen
-returns-4 c = wide-zero (c .before .before .before .args .b) (c .before .before .before .fits .b .fits) (search needs) (c .if4 .taken)
+returns-4 c = wide-zero (c .before .before .before .args .b) (c .before .before .before .fits .b .fits) (omega arith) (omega arith)
 
 lift-requires : tie.Need-lift-requires
 lift-requires c κs = search needs
@@ -50,21 +42,21 @@ lift-requires c κs = search needs
 sub-result : tie.Need-sub-result
 sub-result c = search needs
 
-mul-result-3 : tie.Need-mul-result-3
-mul-result-3 c = search needs
+mul-result-2 : tie.Need-mul-result-2
+mul-result-2 c = search needs
 
 shl-result : tie.Need-shl-result
 shl-result c = search needs
 
-add-result-6 : tie.Need-add-result-6
-add-result-6 c = search needs
+add-result-4 : tie.Need-add-result-4
+add-result-4 c = search needs
 
-add-result-7 : tie.Need-add-result-7
-add-result-7 c = search needs
+add-result-5 : tie.Need-add-result-5
+add-result-5 c = search needs
 
 returns-5 : tie.Need-returns-5
 unfolding widen
-returns-5 c = wide-low (c .before .before .before .before .args .b) (c .lift .result) (c .before .before .before .before .fits .b .fits) (search needs) (c .lift .ensures)
+returns-5 c = wide-low (c .before .before .before .before .args .b) (c .lift .result) (c .before .before .before .before .fits .b .fits) (omega arith) (c .lift .ensures)
 
 pub widen-spec : {M : Type 1} → statement M
 widen-spec =
@@ -74,18 +66,15 @@ widen-spec =
     add-result
     returns
     returns-2
-    add-result-2
     mul-result
+    add-result-2
     add-result-3
-    mul-result-2
-    add-result-4
-    add-result-5
     returns-3
     returns-4
     lift-requires
     sub-result
-    mul-result-3
+    mul-result-2
     shl-result
-    add-result-6
-    add-result-7
+    add-result-4
+    add-result-5
     returns-5)

@@ -1,8 +1,9 @@
-use native.Mathlib.Omega.{arith}
-use mathlib.Core.Logic.{inl, inr}
-use lib.Dec.{lit<}
+use Rattle.numbers.proofs.Whole.{whole-zero, kept-few, whole-cut}
+use Rattle.numbers.proofs.Settle.{sign-le}
 use lib.Ieee.{binary32}
-use Rattle.numbers.proofs.Whole.{whole-zero, whole-some, whole-ready}
+use lib.Dec.{lit<}
+use mathlib.Core.Logic.{inl}
+use native.Mathlib.Omega.{arith}
 use borrow.Author.Needs.{needs}
 use Rattle.numbers.proofs.integer.whole32.Statement.{statement}
 use Rattle.numbers.proofs.integer.whole32.Tie as tie
@@ -16,20 +17,32 @@ returns c = whole-zero (c .before .before .args .mode) binary32 (c .before .befo
 lift-requires : tie.Need-lift-requires
 lift-requires c κs = search needs
 
-shl-settle32 : tie.Need-shl-settle32
-shl-settle32 c = search needs
+shl-cut : tie.Need-shl-cut
+shl-cut c = search needs
 
-mul-settle32 : tie.Need-mul-settle32
-mul-settle32 c = search needs
+cut-requires : tie.Need-cut-requires
+cut-requires c κs = search needs
 
-sub-settle32 : tie.Need-sub-settle32
-sub-settle32 c = search needs
+sign32-requires : tie.Need-sign32-requires
+sign32-requires c κs = search needs
 
-settle32-requires-2 : tie.Need-settle32-requires-2
-settle32-requires-2 c κs = (whole-ready (c .before .before .args .n) (c .lift .result) (c .lift .ensures) .0, omega arith, inr (whole-ready (c .before .before .args .n) (c .lift .result) (c .lift .ensures) .1))
+sub-t8 : tie.Need-sub-t8
+sub-t8 c = search needs
+
+mul-t9 : tie.Need-mul-t9
+mul-t9 c = search needs
+
+add-t10 : tie.Need-add-t10
+add-t10 c = omega (arith, kept-few (c .before .before .before .before .before .args .mode) (c .before .before .before .before .before .args .negative) (c .before .before .before .before .before .args .n) (c .before .before .before .lift .result) _ _ (c .before .before .before .lift .ensures) (c .before .before .cut .ensures))
+
+add-t11 : tie.Need-add-t11
+add-t11 c = omega (arith, kept-few (c .before .before .before .before .before .args .mode) (c .before .before .before .before .before .args .negative) (c .before .before .before .before .before .args .n) (c .before .before .before .lift .result) _ _ (c .before .before .before .lift .ensures) (c .before .before .cut .ensures), sign-le (c .before .before .before .before .before .args .negative) 0x8000_0000, c .before .sign32 .ensures)
+
+cast-t12 : tie.Need-cast-t12
+cast-t12 c = omega (arith, kept-few (c .before .before .before .before .before .args .mode) (c .before .before .before .before .before .args .negative) (c .before .before .before .before .before .args .n) (c .before .before .before .lift .result) _ _ (c .before .before .before .lift .ensures) (c .before .before .cut .ensures), sign-le (c .before .before .before .before .before .args .negative) 0x8000_0000, c .before .sign32 .ensures)
 
 returns-2 : tie.Need-returns-2
-returns-2 c = whole-some (c .before .before .before .args .mode) binary32 (c .before .before .before .args .negative) (c .before .before .before .args .n) (c .before .lift .result) _ _ (c .before .lift .ensures) (c .settle322 .ensures)
+returns-2 c = whole-cut (c .before .before .before .before .before .args .mode) (c .before .before .before .before .before .args .negative) (c .before .before .before .before .before .args .n) (c .before .before .before .lift .result) _ _ (c .before .before .before .lift .ensures) (c .before .before .cut .ensures) _ (c .before .sign32 .ensures)
 
 pub whole32-spec : {M : Type 1} → statement M
 whole32-spec =
@@ -38,8 +51,12 @@ whole32-spec =
     settle32-requires
     returns
     lift-requires
-    shl-settle32
-    mul-settle32
-    sub-settle32
-    settle32-requires-2
+    shl-cut
+    cut-requires
+    sign32-requires
+    sub-t8
+    mul-t9
+    add-t10
+    add-t11
+    cast-t12
     returns-2)

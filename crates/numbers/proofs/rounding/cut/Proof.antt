@@ -1,5 +1,6 @@
-use native.Mathlib.Nat.{lt-of-le-of-lt, div-le-self, mod-lt}
-use Rattle.numbers.proofs.Cutting.{shift-pos, cut-is}
+use Rattle.numbers.proofs.Cutting.{lead-lt, unit-least, unit-most, sum-is, shift-pos, cut-is}
+use mathlib.Core.Path.{refl}
+use native.Mathlib.Omega.{arith}
 use borrow.Author.Needs.{needs}
 use Rattle.numbers.proofs.rounding.cut.Statement.{statement}
 use Rattle.numbers.proofs.rounding.cut.Tie as tie
@@ -7,17 +8,21 @@ use Rattle.numbers.proofs.rounding.cut.Tie as tie
 power-requires : tie.Need-power-requires
 power-requires c κs = search needs
 
-div-step : tie.Need-div-step
-div-step c = shift-pos _ _ (c .power .ensures)
+lead-in-requires : tie.Need-lead-in-requires
+lead-in-requires c κs = unit-least _ _ (c .power .ensures) (c .before .pre .1)
 
-rem-step : tie.Need-rem-step
-rem-step c = shift-pos _ _ (c .power .ensures)
+add-sum : tie.Need-add-sum
+add-sum c = let u = c .before .power .result in
+    omega (arith, c .before .before .pre .0, c .lead-in .ensures, unit-most u _ (c .before .power .ensures) (c .before .before .pre .2), lead-lt (c .before .before .args .mode) (c .before .before .args .negative) (c .before .before .args .m) u (unit-least u _ (c .before .power .ensures) (c .before .before .pre .1)))
 
-step-requires : tie.Need-step-requires
-step-requires c κs = (lt-of-le-of-lt (div-le-self (c .before .args .m) (c .power .result)) (c .before .pre .0), mod-lt (c .before .args .m) (shift-pos _ _ (c .power .ensures)))
+div-t7 : tie.Need-div-t7
+div-t7 c = shift-pos _ _ (c .before .power .ensures)
+
+rem-t8 : tie.Need-rem-t8
+rem-t8 c = shift-pos _ _ (c .before .power .ensures)
 
 returns : tie.Need-returns
-returns c = cut-is (c .before .before .args .mode) (c .before .before .args .negative) (c .before .before .args .m) _ _ _ _ (c .before .power .ensures) (c .step .ensures .0) (c .step .ensures .1)
+returns c = cut-is (c .before .before .args .mode) (c .before .before .args .negative) (c .before .before .args .m) (c .before .power .result) _ _ _ (c .before .power .ensures) (sum-is _ _ (c .before .power .ensures) (c .before .before .args .mode) (c .before .before .args .negative) (c .before .before .args .m) _ (c .before .before .pre .1) (c .lead-in .ensures)) refl
 
 pub cut-spec : {M : Type 1} → statement M
-cut-spec = tie.close (tie.spec power-requires div-step rem-step step-requires returns)
+cut-spec = tie.close (tie.spec power-requires lead-in-requires add-sum div-t7 rem-t8 returns)

@@ -1,0 +1,39 @@
+use native.Mathlib.Omega.{arith}
+use lib.Ieee.{binary64}
+use Rattle.numbers.proofs.Patterns.{no-nan-pattern}
+use borrow.Author.Needs.{needs}
+use Rattle.numbers.proofs.root.estimate.Statement.{statement}
+use Rattle.numbers.proofs.root.estimate.Tie as tie
+
+add-pattern : tie.Need-add-pattern
+add-pattern c = search needs
+
+float-from-bits-a : tie.Need-float-from-bits-a
+float-from-bits-a c = no-nan-pattern binary64 _ (omega arith)
+
+sub-guess : tie.Need-sub-guess
+sub-guess c = search needs
+
+float-from-bits-guess : tie.Need-float-from-bits-guess
+float-from-bits-guess c = no-nan-pattern binary64 _ (omega arith)
+
+bits64-requires : tie.Need-bits64-requires
+bits64-requires c κs = search needs
+
+add-result : tie.Need-add-result
+add-result c = search needs
+
+returns : tie.Need-returns
+returns c = search needs
+
+pub estimate-spec : {M : Type 1} → statement M
+estimate-spec =
+    tie.close
+    (tie.spec
+    add-pattern
+    float-from-bits-a
+    sub-guess
+    float-from-bits-guess
+    bits64-requires
+    add-result
+    returns)
