@@ -31,7 +31,7 @@ stride-few c = by (eqb (c / 2 ^ 20 % 4) 3)
     by true = omega arith
     by false = omega arith
 
-pub iterations-few : (f : Format) (c d : ℕ) → iterationsOf f c d ≤ 8
+iterations-few : (f : Format) (c d : ℕ) → iterationsOf f c d ≤ 8
 iterations-few f c d = by (ltb d (bankOf f))
   where
     by : (b : Bool) → cond b 1 (c / 2 ^ 16 % 8 + 1) ≤ 8
@@ -44,25 +44,6 @@ iterations-some f c d = by (ltb d (bankOf f))
     by : (b : Bool) → 0 < cond b 1 (c / 2 ^ 16 % 8 + 1)
     by true = omega arith
     by false = omega arith
-
-module _ {f : Format} {c d : ℕ} {v : Vector} (made : Vectored f c d v) where
-  -- what a step of the vector asks for
-  pub may-step : (r i : ℕ) → r < 32 → i < v .iterations → Steps v r i
-  may-step r i h g =
-      record {
-        bank = rw (made .bank) (bank-some f);
-        few = rw (made .bank) (bank-few f);
-        stride = rw (made .stride) (stride-few c);
-        register = h;
-        iteration = omega (arith, made .iterations, iterations-few f c d);
-      }
-
-  -- the registers of an iteration
-  pub stepped : (x r i : ℕ) → x ≡ stepOf (v .bank) (v .stride) r i → x ≡ stepOf (bankOf f) (strideOf c) r i
-  stepped x r i e = rw (← made .bank, ← made .stride) e
-
-  pub seconded : (x r i : ℕ) → x ≡ secondOf (v .bank) (v .stride) r i → x ≡ secondOf (bankOf f) (strideOf c) r i
-  seconded x r i e = rw (← made .bank, ← made .stride) e
 
 -- ---- the registers of an iteration, one step on from those of the one before
 
@@ -188,8 +169,11 @@ module _ {f : Format} {c d : ℕ} {v : Vector} (made : Vectored f c d v) where
 abbrev pub turnOf : Format → ℕ → (ℕ → ℕ → ℕ → Step) → ℕ → ℕ → ℕ → ℕ → Step
 turnOf f c one d n m i = one (stepOf (bankOf f) (strideOf c) d i) (stepOf (bankOf f) (strideOf c) n i) (secondOf (bankOf f) (strideOf c) m i)
 
+pub at-one : {f : Format} {c d n m count i dn nn mn : ℕ} → At f c d n m count i dn nn mn → (one : ℕ → ℕ → ℕ → Step) → one dn nn mn ≡ turnOf f c one d n m i
+at-one at one = rw (at .first, at .second, at .third)
+
 -- one turn of a loop that does the steps of a family
-pub turn : (i : ℕ) (each : ℕ → Step) (one : Step) (st x y : State) → y ≡ step one x → one ≡ each i → x ≡ after i each st → y ≡ after (i + 1) each st
+turn : (i : ℕ) (each : ℕ → Step) (one : Step) (st x y : State) → y ≡ step one x → one ≡ each i → x ≡ after i each st → y ≡ after (i + 1) each st
 turn i each one st x y d e h = d ∙ ap (λ (z : Step). step z x) e ∙ after-one i each st x h
 
 -- before iteration i: its registers, and what the earlier ones did
@@ -205,7 +189,7 @@ module _ {f : Format} {c : ℕ} {one : ℕ → ℕ → ℕ → Step} {d n m : �
       (does : (q : Machine) (w : List ℕ) → state (withS q s′) w ≡ step (one dn nn mn) (state (withS q s) w)) where
     did-one : (q : Machine) (w : List ℕ) → state (withS q s′) w ≡ after (i + 1) (turnOf f c one d n m) (state (withS q s₀) w)
     did-one q w =
-        turn i (turnOf f c one d n m) (one dn nn mn) (state (withS q s₀) w) (state (withS q s) w) _ (does q w) (rw (here .at .first, here .at .second, here .at .third)) (here .did q w)
+        turn i (turnOf f c one d n m) (one dn nn mn) (state (withS q s₀) w) (state (withS q s) w) _ (does q w) (at-one (here .at) one) (here .did q w)
 
     pub again : {x y z : ℕ} → i + 1 < v .iterations → x ≡ stepOf (v .bank) (v .stride) dn 1 → y ≡ stepOf (v .bank) (v .stride) nn 1 → z ≡ secondOf (v .bank) (v .stride) mn 1
         → Turning f c one d n m (v .iterations) s₀ s′ x y z (i + 1)
