@@ -1,20 +1,12 @@
 -- The arithmetic of one step by the tests that the code makes, and what its result depends on. Over the format. Assumes nothing.
 use mathlib.Core.Path.{_≡_, refl, sym, ap, _∙_}
 use mathlib.Core.Bool.{Bool, true, false, _&&_, _||_, cond}
-use Prim.Native.Nat.{ℕ, _*_, _%_, _≤_, _<_}
-use borrow.Author.Tests.{lt-ltb, le-ltb}
-use lib.Ieee.{Float, Format, hid, ones, top, ofBits, toBits, nanBits}
-use lib.Ieee.Bits.{nanBits-above}
+use Prim.Native.Nat.{ℕ}
+use lib.Ieee.{Float, Format, ofBits, toBits, nanBits}
 use Rattle.numbers.specs.Flush.{flush}
 use Rattle.numbers.specs.Arithmetic.{apply, accumulates, defaultNan, applied, arithmetic}
 use Rattle.numbers.specs.declared.arithmetic.Arithmetic.{Arithmetic}
 use Rattle.numbers.specs.declared.arithmetic.Arithmetic.the-variants.{MultiplyAccumulate, MultiplySubtract, NegateMultiplySubtract, NegateMultiplyAccumulate, Multiply, NegateMultiply, Add, Subtract, Divide}
-
-pub nan-word : (f : Format) (b : ℕ) → ones f * hid f < b % top f → nanBits f b ≡ true
-nan-word f b h = nanBits-above f b ∙ lt-ltb (ones f * hid f) (b % top f) h
-
-pub no-nan-word : (f : Format) (b : ℕ) → b % top f ≤ ones f * hid f → nanBits f b ≡ false
-no-nan-word f b h = nanBits-above f b ∙ le-ltb (ones f * hid f) (b % top f) h
 
 -- a kind that does not read d
 pub unread : (f : Format) (kind : Arithmetic) (n m d e : Float) → accumulates kind ≡ false → apply f kind n m d ≡ apply f kind n m e
@@ -34,22 +26,22 @@ module _ (f : Format) (kind : Arithmetic) (n m d : ℕ) where
   unfolding applied
   applied-is x y a z p q r s = rw (p, q, r, s)
 
-  pub nan-n : ones f * hid f < n % top f → defaultNan f ≡ applied f kind n m d
-  nan-n h = sym (applied-is true (nanBits f m) (accumulates kind) (nanBits f d) (nan-word f n h) refl refl refl)
+  pub nan-n : nanBits f n ≡ true → defaultNan f ≡ applied f kind n m d
+  nan-n h = sym (applied-is true (nanBits f m) (accumulates kind) (nanBits f d) h refl refl refl)
 
-  pub nan-m : n % top f ≤ ones f * hid f → ones f * hid f < m % top f → defaultNan f ≡ applied f kind n m d
-  nan-m g h = sym (applied-is false true (accumulates kind) (nanBits f d) (no-nan-word f n g) (nan-word f m h) refl refl)
+  pub nan-m : nanBits f n ≡ false → nanBits f m ≡ true → defaultNan f ≡ applied f kind n m d
+  nan-m g h = sym (applied-is false true (accumulates kind) (nanBits f d) g h refl refl)
 
-  pub nan-d : n % top f ≤ ones f * hid f → m % top f ≤ ones f * hid f → accumulates kind ≡ true → ones f * hid f < d % top f → defaultNan f ≡ applied f kind n m d
-  nan-d g h a k = sym (applied-is false false true true (no-nan-word f n g) (no-nan-word f m h) a (nan-word f d k))
+  pub nan-d : nanBits f n ≡ false → nanBits f m ≡ false → accumulates kind ≡ true → nanBits f d ≡ true → defaultNan f ≡ applied f kind n m d
+  nan-d g h a k = sym (applied-is false false true true g h a k)
 
   -- the floats' own operators, of the operands that are no NaN
   pub worked : (r : ℕ) (v x y z : Float) → r ≡ toBits f v → v ≡ apply f kind x y z → x ≡ ofBits f n → y ≡ ofBits f m → z ≡ ofBits f d
-      → n % top f ≤ ones f * hid f → m % top f ≤ ones f * hid f → d % top f ≤ ones f * hid f → r ≡ applied f kind n m d
+      → nanBits f n ≡ false → nanBits f m ≡ false → nanBits f d ≡ false → r ≡ applied f kind n m d
   worked r v x y z e w p q s g h k =
       e
       ∙ ap (toBits f) (w ∙ ap (λ (t : Float). apply f kind t y z) p ∙ ap (λ (t : Float). apply f kind (ofBits f n) t z) q ∙ ap (λ (t : Float). apply f kind (ofBits f n) (ofBits f m) t) s)
-      ∙ sym (applied-is false false (accumulates kind) false (no-nan-word f n g) (no-nan-word f m h) refl (no-nan-word f d k) ∙ stays _ _ (accumulates kind))
+      ∙ sym (applied-is false false (accumulates kind) false g h refl k ∙ stays _ _ (accumulates kind))
     where
       stays : (x y : ℕ) (b : Bool) → cond (b && false) x y ≡ y
       stays x y true = refl
@@ -57,11 +49,11 @@ module _ (f : Format) (kind : Arithmetic) (n m d : ℕ) where
 
   -- where d is not read, whatever stands for it
   pub worked-without : (r : ℕ) (v x y z : Float) → r ≡ toBits f v → v ≡ apply f kind x y z → x ≡ ofBits f n → y ≡ ofBits f m → accumulates kind ≡ false
-      → n % top f ≤ ones f * hid f → m % top f ≤ ones f * hid f → r ≡ applied f kind n m d
+      → nanBits f n ≡ false → nanBits f m ≡ false → r ≡ applied f kind n m d
   worked-without r v x y z e w p q a g h =
       e
       ∙ ap (toBits f) (w ∙ ap (λ (t : Float). apply f kind t y z) p ∙ ap (λ (t : Float). apply f kind (ofBits f n) t z) q ∙ unread f kind (ofBits f n) (ofBits f m) z (ofBits f d) a)
-      ∙ sym (applied-is false false false (nanBits f d) (no-nan-word f n g) (no-nan-word f m h) a refl)
+      ∙ sym (applied-is false false false (nanBits f d) g h a refl)
 
 -- the result does not depend on a d that is not read
 pub without-d : (f : Format) (control : ℕ) (kind : Arithmetic) (n m d e : ℕ) → accumulates kind ≡ false → arithmetic f control kind n m d ≡ arithmetic f control kind n m e

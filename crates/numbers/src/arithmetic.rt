@@ -8,6 +8,8 @@ use super::word::bits32;
 use super::word::bits64;
 use super::word::float32;
 use super::word::float64;
+use super::word::is_nan32;
+use super::word::is_nan64;
 
 // In the order of word bits 23, 21, 20, 6 as a number.
 pub enum Arithmetic {
@@ -98,14 +100,14 @@ pub fn apply64(kind: Arithmetic, x: Doubles) -> f64
 pub fn applied32(kind: Arithmetic, n: u32, m: u32, d: u32) -> u32
     ensures { λ r. ⌜ r ≡ applied binary32 kind n m d ⌝ }
 {
-    if n % 0x8000_0000 > 0x7F80_0000 {
+    if is_nan32(n) {
         return 0x7FC0_0000;
     }
-    if m % 0x8000_0000 > 0x7F80_0000 {
+    if is_nan32(m) {
         return 0x7FC0_0000;
     }
     if reads_d(kind) {
-        if d % 0x8000_0000 > 0x7F80_0000 {
+        if is_nan32(d) {
             return 0x7FC0_0000;
         }
         let x = Singles {
@@ -126,14 +128,14 @@ pub fn applied32(kind: Arithmetic, n: u32, m: u32, d: u32) -> u32
 pub fn applied64(kind: Arithmetic, n: u64, m: u64, d: u64) -> u64
     ensures { λ r. ⌜ r ≡ applied binary64 kind n m d ⌝ }
 {
-    if n % 0x8000_0000_0000_0000 > 0x7FF0_0000_0000_0000 {
+    if is_nan64(n) {
         return 0x7FF8_0000_0000_0000;
     }
-    if m % 0x8000_0000_0000_0000 > 0x7FF0_0000_0000_0000 {
+    if is_nan64(m) {
         return 0x7FF8_0000_0000_0000;
     }
     if reads_d(kind) {
-        if d % 0x8000_0000_0000_0000 > 0x7FF0_0000_0000_0000 {
+        if is_nan64(d) {
             return 0x7FF8_0000_0000_0000;
         }
         let x = Doubles {

@@ -1,14 +1,18 @@
 -- Loops over a short vector.
 use Prim.Native.Nat.{ℕ, _+_, _*_, _/_, _%_, _^_, _<_, _≤_}
-use native.Mathlib.Nat.{mul-le-mul}
+use native.Mathlib.Nat.{mul-le-mul, add-mul}
 use native.Mathlib.Omega.{arith}
-use mathlib.Core.Path.{_≡_, ap, _∙_}
+use mathlib.Core.Path.{_≡_, refl, ap, sym, _∙_}
 use mathlib.Core.Bool.{Bool, true, false, cond}
+use mathlib.Core.List.{List}
 use lib.Dec.{eqb, ltb}
 use lib.Ieee.{Format, binary32, binary64}
-use Rattle.machine.specs.Place.{State}
+use borrow.Author.Tests.{le-ltb, ltb-false}
+use Rattle.machine.specs.declared.Machine.{Machine}
+use Rattle.machine.specs.Machine.{withS}
+use Rattle.machine.specs.Place.{State, state}
 use Rattle.meaning.specs.Step.{Step, step, after}
-use Rattle.meaning.proofs.Laws.{after-one}
+use Rattle.meaning.proofs.Laws.{after-none, after-one}
 use Rattle.processing.specs.declared.vector.Vector.{Vector}
 use Rattle.processing.specs.Vector.{bankOf, iterationsOf, strideOf, stepOf, secondOf, Vectored, Steps}
 
@@ -27,35 +31,172 @@ stride-few c = by (eqb (c / 2 ^ 20 % 4) 3)
     by true = omega arith
     by false = omega arith
 
-pub iterations-few : (f : Format) (c d : ℕ) → iterationsOf f c d ≤ 8
+iterations-few : (f : Format) (c d : ℕ) → iterationsOf f c d ≤ 8
 iterations-few f c d = by (ltb d (bankOf f))
   where
     by : (b : Bool) → cond b 1 (c / 2 ^ 16 % 8 + 1) ≤ 8
     by true = omega arith
     by false = omega arith
 
+iterations-some : (f : Format) (c d : ℕ) → 0 < iterationsOf f c d
+iterations-some f c d = by (ltb d (bankOf f))
+  where
+    by : (b : Bool) → 0 < cond b 1 (c / 2 ^ 16 % 8 + 1)
+    by true = omega arith
+    by false = omega arith
+
+-- ---- the registers of an iteration, one step on from those of the one before
+
+module _ (f : Format) (s r : ℕ) where
+  step-none : r ≡ stepOf (bankOf f) s r 0
+  unfolding stepOf
+  step-none = by f
+    where
+      by : (f : Format) → r ≡ r / bankOf f * bankOf f + (r + 0 * s) % bankOf f
+      by binary32 = omega arith
+      by binary64 = omega arith
+
+  step-one : (i : ℕ) → stepOf (bankOf f) s (stepOf (bankOf f) s r i) 1 ≡ stepOf (bankOf f) s r (i + 1)
+  unfolding stepOf
+  step-one i = rw (add-mul i 1 s) (by f (i * s))
+    where
+      by : (f : Format) (k : ℕ) → (r / bankOf f * bankOf f + (r + k) % bankOf f) / bankOf f * bankOf f + (r / bankOf f * bankOf f + (r + k) % bankOf f + 1 * s) % bankOf f ≡ r / bankOf f * bankOf f + (r + (k + 1 * s)) % bankOf f
+      by binary32 k = omega arith
+      by binary64 k = omega arith
+
+  step-within : (i : ℕ) → r < 32 → stepOf (bankOf f) s r i < 32
+  unfolding stepOf
+  step-within i h = by f (i * s)
+    where
+      by : (f : Format) (k : ℕ) → r / bankOf f * bankOf f + (r + k) % bankOf f < 32
+      by binary32 k = omega arith
+      by binary64 k = omega arith
+
+  -- from bank 0 on, a bank is left by no step
+  step-stays : (i : ℕ) → bankOf f ≤ r → bankOf f ≤ stepOf (bankOf f) s r i
+  unfolding stepOf
+  step-stays i h = by f (i * s) h
+    where
+      by : (f : Format) (k : ℕ) → bankOf f ≤ r → bankOf f ≤ r / bankOf f * bankOf f + (r + k) % bankOf f
+      by binary32 k h = omega arith
+      by binary64 k h = omega arith
+
+  second-by : (b : Bool) → ltb r (bankOf f) ≡ b → (i : ℕ) → secondOf (bankOf f) s r i ≡ cond b r (stepOf (bankOf f) s r i)
+  unfolding secondOf
+  second-by b e i = rw e
+
+  second-none : r ≡ secondOf (bankOf f) s r 0
+  second-none = by _ refl
+    where
+      by : (b : Bool) → ltb r (bankOf f) ≡ b → r ≡ secondOf (bankOf f) s r 0
+      by true e = sym (second-by true e 0)
+      by false e = step-none ∙ sym (second-by false e 0)
+
+  second-within : (i : ℕ) → r < 32 → secondOf (bankOf f) s r i < 32
+  second-within i h = by _ refl
+    where
+      by : (b : Bool) → ltb r (bankOf f) ≡ b → secondOf (bankOf f) s r i < 32
+      by true e = rw (second-by true e i) h
+      by false e = rw (second-by false e i) (step-within i h)
+
+second-one : (f : Format) (s r i : ℕ) → secondOf (bankOf f) s (secondOf (bankOf f) s r i) 1 ≡ secondOf (bankOf f) s r (i + 1)
+second-one f s r i = by _ refl
+  where
+    by : (b : Bool) → ltb r (bankOf f) ≡ b → secondOf (bankOf f) s (secondOf (bankOf f) s r i) 1 ≡ secondOf (bankOf f) s r (i + 1)
+    by true e = rw (second-by f s r true e i, second-by f s r true e 1, second-by f s r true e (i + 1))
+    by false e =
+        rw (second-by f s r false e i, second-by f s r false e (i + 1), second-by f s (stepOf (bankOf f) s r i) false (le-ltb _ _ (step-stays f s r i (ltb-false _ _ e))) 1)
+        (step-one f s r i)
+
+-- the registers of iteration i, one of count, of a word with the registers d, n and m
+pub record At (f : Format) (c d n m count i dn nn mn : ℕ) : Type 0 where
+  pub few : count ≤ 8
+  pub more : i < count
+  pub first : dn ≡ stepOf (bankOf f) (strideOf c) d i
+  pub second : nn ≡ stepOf (bankOf f) (strideOf c) n i
+  pub third : mn ≡ secondOf (bankOf f) (strideOf c) m i
+  pub d-within : dn < 32
+  pub n-within : nn < 32
+  pub m-within : mn < 32
+
 module _ {f : Format} {c d : ℕ} {v : Vector} (made : Vectored f c d v) where
-  -- what a step of the vector asks for
-  pub may-step : (r i : ℕ) → r < 32 → i < v .iterations → Steps v r i
-  may-step r i h g =
+  -- what a step on asks for
+  pub may-go : {r : ℕ} → r < 32 → Steps v r 1
+  may-go h =
       record {
         bank = rw (made .bank) (bank-some f);
         few = rw (made .bank) (bank-few f);
         stride = rw (made .stride) (stride-few c);
         register = h;
-        iteration = omega (arith, made .iterations, iterations-few f c d);
+        iteration = omega arith;
       }
 
-  -- the registers of an iteration
-  pub stepped : (x r i : ℕ) → x ≡ stepOf (v .bank) (v .stride) r i → x ≡ stepOf (bankOf f) (strideOf c) r i
-  stepped x r i e = rw (← made .bank, ← made .stride) e
+  pub at-first : {n m : ℕ} → d < 32 → n < 32 → m < 32 → At f c d n m (v .iterations) 0 d n m
+  at-first {n} {m} dh nh mh =
+      record {
+        few = rw (made .iterations) (iterations-few f c d);
+        more = rw (made .iterations) (iterations-some f c d);
+        first = step-none f (strideOf c) d;
+        second = step-none f (strideOf c) n;
+        third = second-none f (strideOf c) m;
+        d-within = dh;
+        n-within = nh;
+        m-within = mh;
+      }
 
-  pub seconded : (x r i : ℕ) → x ≡ secondOf (v .bank) (v .stride) r i → x ≡ secondOf (bankOf f) (strideOf c) r i
-  seconded x r i e = rw (← made .bank, ← made .stride) e
+  pub at-next : {n m count i dn nn mn x y z : ℕ} → At f c d n m count i dn nn mn → i + 1 < count
+      → x ≡ stepOf (v .bank) (v .stride) dn 1 → y ≡ stepOf (v .bank) (v .stride) nn 1 → z ≡ secondOf (v .bank) (v .stride) mn 1
+      → At f c d n m count (i + 1) x y z
+  at-next {n} {m} {i} at h p q r =
+      rw (p, q, r, made .bank, made .stride)
+      (record {
+        few = at .few;
+        more = h;
+        first = rw (at .first) (step-one f (strideOf c) d i);
+        second = rw (at .second) (step-one f (strideOf c) n i);
+        third = rw (at .third) (second-one f (strideOf c) m i);
+        d-within = step-within f (strideOf c) _ 1 (at .d-within);
+        n-within = step-within f (strideOf c) _ 1 (at .n-within);
+        m-within = second-within f (strideOf c) _ 1 (at .m-within);
+      })
+
+  pub at-last : {n m i dn nn mn : ℕ} → At f c d n m (v .iterations) i dn nn mn → v .iterations ≤ i + 1 → iterationsOf f c d ≡ i + 1
+  at-last at h = omega (arith, made .iterations)
+
+-- ---- the loop
+
+-- what iteration i does, of one that does this to d, n and m
+abbrev pub turnOf : Format → ℕ → (ℕ → ℕ → ℕ → Step) → ℕ → ℕ → ℕ → ℕ → Step
+turnOf f c one d n m i = one (stepOf (bankOf f) (strideOf c) d i) (stepOf (bankOf f) (strideOf c) n i) (secondOf (bankOf f) (strideOf c) m i)
+
+pub at-one : {f : Format} {c d n m count i dn nn mn : ℕ} → At f c d n m count i dn nn mn → (one : ℕ → ℕ → ℕ → Step) → one dn nn mn ≡ turnOf f c one d n m i
+at-one at one = rw (at .first, at .second, at .third)
 
 -- one turn of a loop that does the steps of a family
-pub turn : (i : ℕ) (each : ℕ → Step) (one : Step) (st x y : State) → y ≡ step one x → one ≡ each i → x ≡ after i each st → y ≡ after (i + 1) each st
+turn : (i : ℕ) (each : ℕ → Step) (one : Step) (st x y : State) → y ≡ step one x → one ≡ each i → x ≡ after i each st → y ≡ after (i + 1) each st
 turn i each one st x y d e h = d ∙ ap (λ (z : Step). step z x) e ∙ after-one i each st x h
+
+-- before iteration i: its registers, and what the earlier ones did
+pub record Turning (f : Format) (c : ℕ) (one : ℕ → ℕ → ℕ → Step) (d n m count : ℕ) (s₀ s : List ℕ) (dn nn mn i : ℕ) : Type 0 where
+  pub at : At f c d n m count i dn nn mn
+  pub did : (q : Machine) (w : List ℕ) → state (withS q s) w ≡ after i (turnOf f c one d n m) (state (withS q s₀) w)
+
+module _ {f : Format} {c : ℕ} {one : ℕ → ℕ → ℕ → Step} {d n m : ℕ} {v : Vector} {s₀ : List ℕ} (made : Vectored f c d v) where
+  pub begun : d < 32 → n < 32 → m < 32 → Turning f c one d n m (v .iterations) s₀ s₀ d n m 0
+  begun dh nh mh = record { at = at-first made dh nh mh; did = λ q w. after-none _ _ }
+
+  module _ {s s′ : List ℕ} {dn nn mn i : ℕ} (here : Turning f c one d n m (v .iterations) s₀ s dn nn mn i)
+      (does : (q : Machine) (w : List ℕ) → state (withS q s′) w ≡ step (one dn nn mn) (state (withS q s) w)) where
+    did-one : (q : Machine) (w : List ℕ) → state (withS q s′) w ≡ after (i + 1) (turnOf f c one d n m) (state (withS q s₀) w)
+    did-one q w =
+        turn i (turnOf f c one d n m) (one dn nn mn) (state (withS q s₀) w) (state (withS q s) w) _ (does q w) (at-one (here .at) one) (here .did q w)
+
+    pub again : {x y z : ℕ} → i + 1 < v .iterations → x ≡ stepOf (v .bank) (v .stride) dn 1 → y ≡ stepOf (v .bank) (v .stride) nn 1 → z ≡ secondOf (v .bank) (v .stride) mn 1
+        → Turning f c one d n m (v .iterations) s₀ s′ x y z (i + 1)
+    again h p q r = record { at = at-next made (here .at) h p q r; did = did-one }
+
+    pub ended : v .iterations ≤ i + 1 → (q : Machine) (w : List ℕ) → state (withS q s′) w ≡ after (iterationsOf f c d) (turnOf f c one d n m) (state (withS q s₀) w)
+    ended h q w = rw (at-last made (here .at) h) (did-one q w)
 
 -- a distance of at most seven strides
 pub small : (i s : ℕ) → i < 8 → s ≤ 2 → i * s ≤ 14

@@ -84,13 +84,19 @@ pub fn arithmetic_singles(
 {
     let vector = Vector::new(control, false, d.0);
     let count = vector.iterations;
+    let mut dn = d.0;
+    let mut nn = n.0;
+    let mut mn = m.0;
     let mut i: usize = 0;
-    while i < count {
-        let dn = vector.step(d.0, i);
-        let nn = vector.step(n.0, i);
-        let mn = vector.second(m.0, i);
+    loop {
         arithmetic_single(s, control, kind, Single(dn), Single(nn), Single(mn));
         i += 1;
+        if i >= count {
+            return;
+        }
+        dn = vector.step(dn, 1);
+        nn = vector.step(nn, 1);
+        mn = vector.second(mn, 1);
     }
 }
 
@@ -107,12 +113,18 @@ pub fn arithmetic_doubles(
 {
     let vector = Vector::new(control, true, d.0);
     let count = vector.iterations;
+    let mut dn = d.0;
+    let mut nn = n.0;
+    let mut mn = m.0;
     let mut i: usize = 0;
-    while i < count {
-        let dn = vector.step(d.0, i);
-        let nn = vector.step(n.0, i);
-        let mn = vector.second(m.0, i);
+    loop {
         arithmetic_double(s, control, kind, Double(dn), Double(nn), Double(mn));
         i += 1;
+        if i >= count {
+            return;
+        }
+        dn = vector.step(dn, 1);
+        nn = vector.step(nn, 1);
+        mn = vector.second(mn, 1);
     }
 }

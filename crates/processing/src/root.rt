@@ -39,12 +39,17 @@ pub fn root_singles(s: &mut [u32; 32], control: u32, d: Single, m: Single)
 {
     let vector = Vector::new(control, false, d.0);
     let count = vector.iterations;
+    let mut dn = d.0;
+    let mut mn = m.0;
     let mut i: usize = 0;
-    while i < count {
-        let dn = vector.step(d.0, i);
-        let mn = vector.second(m.0, i);
+    loop {
         root_single(s, Single(dn), Single(mn));
         i += 1;
+        if i >= count {
+            return;
+        }
+        dn = vector.step(dn, 1);
+        mn = vector.second(mn, 1);
     }
 }
 
@@ -54,11 +59,16 @@ pub fn root_doubles(s: &mut [u32; 32], control: u32, d: Double, m: Double)
 {
     let vector = Vector::new(control, true, d.0);
     let count = vector.iterations;
+    let mut dn = d.0;
+    let mut mn = m.0;
     let mut i: usize = 0;
-    while i < count {
-        let dn = vector.step(d.0, i);
-        let mn = vector.second(m.0, i);
+    loop {
         root_double(s, Double(dn), Double(mn));
         i += 1;
+        if i >= count {
+            return;
+        }
+        dn = vector.step(dn, 1);
+        mn = vector.second(mn, 1);
     }
 }

@@ -66,12 +66,17 @@ pub fn sign_singles(s: &mut [u32; 32], control: u32, sign: Sign, d: Single, m: S
 {
     let vector = Vector::new(control, false, d.0);
     let count = vector.iterations;
+    let mut dn = d.0;
+    let mut mn = m.0;
     let mut i: usize = 0;
-    while i < count {
-        let dn = vector.step(d.0, i);
-        let mn = vector.second(m.0, i);
+    loop {
         sign_single(s, sign, Single(dn), Single(mn));
         i += 1;
+        if i >= count {
+            return;
+        }
+        dn = vector.step(dn, 1);
+        mn = vector.second(mn, 1);
     }
 }
 
@@ -81,11 +86,16 @@ pub fn sign_doubles(s: &mut [u32; 32], control: u32, sign: Sign, d: Double, m: D
 {
     let vector = Vector::new(control, true, d.0);
     let count = vector.iterations;
+    let mut dn = d.0;
+    let mut mn = m.0;
     let mut i: usize = 0;
-    while i < count {
-        let dn = vector.step(d.0, i);
-        let mn = vector.second(m.0, i);
+    loop {
         sign_double(s, sign, Double(dn), Double(mn));
         i += 1;
+        if i >= count {
+            return;
+        }
+        dn = vector.step(dn, 1);
+        mn = vector.second(mn, 1);
     }
 }

@@ -32,14 +32,20 @@ pub fn mark_arithmetic(
 {
     let vector = Vector::new(control, double, d);
     let count = vector.iterations;
+    let mut dn = d;
+    let mut nn = n;
+    let mut mn = m;
     let mut i: usize = 0;
-    while i < count {
-        let dn = vector.step(d, i);
-        let nn = vector.step(n, i);
-        let mn = vector.second(m, i);
+    loop {
         let all = operands_known(ks, double, kind, dn, nn, mn);
         mark(ks, double, dn, all);
         i += 1;
+        if i >= count {
+            return;
+        }
+        dn = vector.step(dn, 1);
+        nn = vector.step(nn, 1);
+        mn = vector.second(mn, 1);
     }
 }
 
@@ -50,12 +56,17 @@ pub fn mark_sign(ks: &mut [bool; 32], control: u32, double: bool, d: usize, m: u
 {
     let vector = Vector::new(control, double, d);
     let count = vector.iterations;
+    let mut dn = d;
+    let mut mn = m;
     let mut i: usize = 0;
-    while i < count {
-        let dn = vector.step(d, i);
-        let mn = vector.second(m, i);
+    loop {
         copy(ks, double, dn, mn);
         i += 1;
+        if i >= count {
+            return;
+        }
+        dn = vector.step(dn, 1);
+        mn = vector.second(mn, 1);
     }
 }
 
@@ -66,12 +77,17 @@ pub fn mark_root(ks: &mut [bool; 32], control: u32, double: bool, d: usize, m: u
 {
     let vector = Vector::new(control, double, d);
     let count = vector.iterations;
+    let mut dn = d;
+    let mut mn = m;
     let mut i: usize = 0;
-    while i < count {
-        let dn = vector.step(d, i);
-        let mn = vector.second(m, i);
+    loop {
         let all = known(ks, double, mn);
         mark(ks, double, dn, all);
         i += 1;
+        if i >= count {
+            return;
+        }
+        dn = vector.step(dn, 1);
+        mn = vector.second(mn, 1);
     }
 }
