@@ -54,7 +54,7 @@ pub record IsRooted (mode : Rounding) (n steps kept : ℕ) (exact : Bool) : Type
   pub below : kept ≤ 2 ^ steps
   pub exact-is : exact ≡ eqb (isqrt n * isqrt n) n
 
--- a normal value's digits, from y: its digits below the lowest bit of its exponent, and that bit above them. Where it is 0 the exponent is odd.
+-- 2 ^ 52 and the 52 digits of y, and twice that where the bit above them, the lowest of a normal value's exponent, is 0
 abbrev pub radicand : ℕ → ℕ
 radicand y = cond (ltb y (2 ^ 52)) (y * 2 + 2 ^ 53) y
 

@@ -125,8 +125,8 @@ pub fn root64(mode: Rounding, b: u64) -> u64
     (e / 2 + 485) * 0x10_0000_0000_0000 + r.kept
 }
 
-// The digits whose root is looked for, 53 or 54 of them, from a normal value's digits below the lowest bit of its exponent, and that bit above them:
-// they have one more 0 where that bit is 0.
+// y is a normal value's 52 digits with the lowest bit of its exponent above them. The number whose root is looked for is 2 ^ 52 and the digits,
+// and twice that where the bit is 0, which leaves an even exponent.
 pub fn radicand(y: u64) -> u64
     requires { ⌜ y < 2 ^ 53 ⌝ }
     ensures { λ r. ⌜ r ≡ radicand y ⌝ }
@@ -138,7 +138,7 @@ pub fn radicand(y: u64) -> u64
     }
 }
 
-// The first 53 digits of the root, give or take one: two steps towards 1 / root from a guess by the bits, and one of Heron's.
+// The first 53 digits of the root, give or take one: a guess by the bits, two steps towards 1 / root and the root, and one of Heron's.
 // It is an estimate by native floats, and no contract says how near: who uses it checks it.
 pub fn estimate(y: u64) -> u64
     requires { ⌜ y < 2 ^ 53 ⌝ }
