@@ -2,6 +2,7 @@
 ghost use mathlib.Core.Path.{_≡_};
 ghost use Prim.Native.Nat.{_<_};
 ghost use lib.Ieee.{binary64};
+ghost use Rattle.processing.specs.declared.Processed.the-variants.{Done};
 ghost use Rattle.processing.specs.Data.{Handled, extensionTree, wordTree, dyadicTree, integerTree};
 use super::Processed;
 use super::arithmetic::arithmetic_doubles;
@@ -115,22 +116,27 @@ pub fn extension_double(s: &mut [u32; 32], fpscr: u32, op: u32) -> Processed
             Processed::Done(fpscr)
         }
         // VCVT to unsigned and to signed integer
-        0b1100 => to_integer_double(s, fpscr, op, top, false),
-        0b1101 => to_integer_double(s, fpscr, op, top, true),
+        0b1100 => {
+            to_integer_double(s, fpscr, op, top, false);
+            Processed::Done(fpscr)
+        }
+        0b1101 => {
+            to_integer_double(s, fpscr, op, top, true);
+            Processed::Done(fpscr)
+        }
         _ => Processed::Undefined,
     }
 }
 
-// Towards zero with bit 7 set, else by the mode of FPSCR 23:22.
-fn to_integer_double(s: &mut [u32; 32], fpscr: u32, op: u32, top: bool, signed: bool) -> Processed
-    ensures { λ r. ⌜ Handled (integerTree binary64 op top signed) op (now (s .entry)) fpscr (now (s .exit)) r ⌝ }
+// Towards zero with bit 7 set, else by the mode of FPSCR 23:22. It answers nothing: an answer that two arms hand on is kept in memory.
+fn to_integer_double(s: &mut [u32; 32], fpscr: u32, op: u32, top: bool, signed: bool)
+    ensures { λ _. ⌜ Handled (integerTree binary64 op top signed) op (now (s .entry)) fpscr (now (s .exit)) (Done fpscr) ⌝ }
 {
     let d = single_d(op);
     let m = double_m(op);
     if top {
         truncate_double(s, signed, d, m);
-        return Processed::Done(fpscr);
+        return;
     }
     round_double(s, fpscr, signed, d, m);
-    Processed::Done(fpscr)
 }

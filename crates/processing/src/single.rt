@@ -2,6 +2,7 @@
 ghost use mathlib.Core.Path.{_≡_};
 ghost use Prim.Native.Nat.{_<_};
 ghost use lib.Ieee.{binary32};
+ghost use Rattle.processing.specs.declared.Processed.the-variants.{Done};
 ghost use Rattle.processing.specs.Data.{Handled, extensionTree, wordTree, dyadicTree, integerTree};
 use super::Processed;
 use super::arithmetic::arithmetic_of;
@@ -114,22 +115,27 @@ pub fn extension_single(s: &mut [u32; 32], fpscr: u32, op: u32) -> Processed
             Processed::Done(fpscr)
         }
         // VCVT to unsigned and to signed integer
-        0b1100 => to_integer_single(s, fpscr, op, top, false),
-        0b1101 => to_integer_single(s, fpscr, op, top, true),
+        0b1100 => {
+            to_integer_single(s, fpscr, op, top, false);
+            Processed::Done(fpscr)
+        }
+        0b1101 => {
+            to_integer_single(s, fpscr, op, top, true);
+            Processed::Done(fpscr)
+        }
         _ => Processed::Undefined,
     }
 }
 
-// Towards zero with bit 7 set, else by the mode of FPSCR 23:22.
-fn to_integer_single(s: &mut [u32; 32], fpscr: u32, op: u32, top: bool, signed: bool) -> Processed
-    ensures { λ r. ⌜ Handled (integerTree binary32 op top signed) op (now (s .entry)) fpscr (now (s .exit)) r ⌝ }
+// Towards zero with bit 7 set, else by the mode of FPSCR 23:22. It answers nothing: an answer that two arms hand on is kept in memory.
+fn to_integer_single(s: &mut [u32; 32], fpscr: u32, op: u32, top: bool, signed: bool)
+    ensures { λ _. ⌜ Handled (integerTree binary32 op top signed) op (now (s .entry)) fpscr (now (s .exit)) (Done fpscr) ⌝ }
 {
     let d = single_d(op);
     let m = single_m(op);
     if top {
         truncate_single(s, signed, d, m);
-        return Processed::Done(fpscr);
+        return;
     }
     round_single(s, fpscr, signed, d, m);
-    Processed::Done(fpscr)
 }

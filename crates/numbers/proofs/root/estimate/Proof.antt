@@ -1,6 +1,7 @@
+-- `numbers::root::estimate` meets its contract.
 use native.Mathlib.Omega.{arith}
 use lib.Ieee.{binary64}
-use Rattle.numbers.proofs.Patterns.{no-nan-pattern}
+use Rattle.numbers.proofs.Patterns.{up-to-infinity}
 use borrow.Author.Needs.{needs}
 use Rattle.numbers.proofs.root.estimate.Statement.{statement}
 use Rattle.numbers.proofs.root.estimate.Tie as tie
@@ -9,13 +10,13 @@ add-pattern : tie.Need-add-pattern
 add-pattern c = search needs
 
 float-from-bits-a : tie.Need-float-from-bits-a
-float-from-bits-a c = no-nan-pattern binary64 _ (omega arith)
+float-from-bits-a c = up-to-infinity binary64 _ (omega arith)
 
 sub-guess : tie.Need-sub-guess
 sub-guess c = search needs
 
 float-from-bits-guess : tie.Need-float-from-bits-guess
-float-from-bits-guess c = no-nan-pattern binary64 _ (omega arith)
+float-from-bits-guess c = up-to-infinity binary64 _ (omega arith)
 
 bits64-requires : tie.Need-bits64-requires
 bits64-requires c κs = search needs
