@@ -11,8 +11,7 @@ use borrow.Author.Tests.{le-ltb, ltb-false}
 use Rattle.machine.specs.declared.Machine.{Machine}
 use Rattle.machine.specs.Machine.{withS}
 use Rattle.machine.specs.Place.{State, state}
-use Rattle.meaning.specs.Step.{Step, step, after}
-use Rattle.meaning.proofs.Laws.{after-none, after-one}
+use Rattle.meaning.specs.Step.{Step}
 use Rattle.processing.specs.declared.vector.Vector.{Vector}
 use Rattle.processing.specs.Vector.{bankOf, iterationsOf, strideOf, stepOf, secondOf, Vectored, Steps}
 
@@ -47,40 +46,28 @@ iterations-some f c d = by (ltb d (bankOf f))
 
 -- ---- the registers of an iteration, one step on from those of the one before
 
+step-none : (f : Format) (s r : ℕ) → r ≡ stepOf (bankOf f) s r 0
+unfolding stepOf
+step-none binary32 s r = omega arith
+step-none binary64 s r = omega arith
+
+step-one : (f : Format) (s r i : ℕ) → stepOf (bankOf f) s (stepOf (bankOf f) s r i) 1 ≡ stepOf (bankOf f) s r (i + 1)
+unfolding stepOf
+step-one binary32 s r i = rw (add-mul i 1 s) (omega arith)
+step-one binary64 s r i = rw (add-mul i 1 s) (omega arith)
+
+step-within : (f : Format) (s r i : ℕ) → r < 32 → stepOf (bankOf f) s r i < 32
+unfolding stepOf
+step-within binary32 s r i h = omega arith
+step-within binary64 s r i h = omega arith
+
+-- no step leads into bank 0
+step-stays : (f : Format) (s r i : ℕ) → bankOf f ≤ r → bankOf f ≤ stepOf (bankOf f) s r i
+unfolding stepOf
+step-stays binary32 s r i h = omega arith
+step-stays binary64 s r i h = omega arith
+
 module _ (f : Format) (s r : ℕ) where
-  step-none : r ≡ stepOf (bankOf f) s r 0
-  unfolding stepOf
-  step-none = by f
-    where
-      by : (f : Format) → r ≡ r / bankOf f * bankOf f + (r + 0 * s) % bankOf f
-      by binary32 = omega arith
-      by binary64 = omega arith
-
-  step-one : (i : ℕ) → stepOf (bankOf f) s (stepOf (bankOf f) s r i) 1 ≡ stepOf (bankOf f) s r (i + 1)
-  unfolding stepOf
-  step-one i = rw (add-mul i 1 s) (by f (i * s))
-    where
-      by : (f : Format) (k : ℕ) → (r / bankOf f * bankOf f + (r + k) % bankOf f) / bankOf f * bankOf f + (r / bankOf f * bankOf f + (r + k) % bankOf f + 1 * s) % bankOf f ≡ r / bankOf f * bankOf f + (r + (k + 1 * s)) % bankOf f
-      by binary32 k = omega arith
-      by binary64 k = omega arith
-
-  step-within : (i : ℕ) → r < 32 → stepOf (bankOf f) s r i < 32
-  unfolding stepOf
-  step-within i h = by f (i * s)
-    where
-      by : (f : Format) (k : ℕ) → r / bankOf f * bankOf f + (r + k) % bankOf f < 32
-      by binary32 k = omega arith
-      by binary64 k = omega arith
-
-  -- from bank 0 on, a bank is left by no step
-  step-stays : (i : ℕ) → bankOf f ≤ r → bankOf f ≤ stepOf (bankOf f) s r i
-  unfolding stepOf
-  step-stays i h = by f (i * s) h
-    where
-      by : (f : Format) (k : ℕ) → bankOf f ≤ r → bankOf f ≤ r / bankOf f * bankOf f + (r + k) % bankOf f
-      by binary32 k h = omega arith
-      by binary64 k h = omega arith
-
   second-by : (b : Bool) → ltb r (bankOf f) ≡ b → (i : ℕ) → secondOf (bankOf f) s r i ≡ cond b r (stepOf (bankOf f) s r i)
   unfolding secondOf
   second-by b e i = rw e
@@ -90,14 +77,14 @@ module _ (f : Format) (s r : ℕ) where
     where
       by : (b : Bool) → ltb r (bankOf f) ≡ b → r ≡ secondOf (bankOf f) s r 0
       by true e = sym (second-by true e 0)
-      by false e = step-none ∙ sym (second-by false e 0)
+      by false e = step-none f s r ∙ sym (second-by false e 0)
 
   second-within : (i : ℕ) → r < 32 → secondOf (bankOf f) s r i < 32
   second-within i h = by _ refl
     where
       by : (b : Bool) → ltb r (bankOf f) ≡ b → secondOf (bankOf f) s r i < 32
       by true e = rw (second-by true e i) h
-      by false e = rw (second-by false e i) (step-within i h)
+      by false e = rw (second-by false e i) (step-within f s r i h)
 
 second-one : (f : Format) (s r i : ℕ) → secondOf (bankOf f) s (secondOf (bankOf f) s r i) 1 ≡ secondOf (bankOf f) s r (i + 1)
 second-one f s r i = by _ refl
@@ -131,7 +118,7 @@ module _ {f : Format} {c d : ℕ} {v : Vector} (made : Vectored f c d v) where
         iteration = omega arith;
       }
 
-  pub at-first : {n m : ℕ} → d < 32 → n < 32 → m < 32 → At f c d n m (v .iterations) 0 d n m
+  at-first : {n m : ℕ} → d < 32 → n < 32 → m < 32 → At f c d n m (v .iterations) 0 d n m
   at-first {n} {m} dh nh mh =
       record {
         few = rw (made .iterations) (iterations-few f c d);
@@ -144,7 +131,7 @@ module _ {f : Format} {c d : ℕ} {v : Vector} (made : Vectored f c d v) where
         m-within = mh;
       }
 
-  pub at-next : {n m count i dn nn mn x y z : ℕ} → At f c d n m count i dn nn mn → i + 1 < count
+  at-next : {n m count i dn nn mn x y z : ℕ} → At f c d n m count i dn nn mn → i + 1 < count
       → x ≡ stepOf (v .bank) (v .stride) dn 1 → y ≡ stepOf (v .bank) (v .stride) nn 1 → z ≡ secondOf (v .bank) (v .stride) mn 1
       → At f c d n m count (i + 1) x y z
   at-next {n} {m} {i} at h p q r =
@@ -160,7 +147,7 @@ module _ {f : Format} {c d : ℕ} {v : Vector} (made : Vectored f c d v) where
         m-within = second-within f (strideOf c) _ 1 (at .m-within);
       })
 
-  pub at-last : {n m i dn nn mn : ℕ} → At f c d n m (v .iterations) i dn nn mn → v .iterations ≤ i + 1 → iterationsOf f c d ≡ i + 1
+  at-last : {n m i dn nn mn : ℕ} → At f c d n m (v .iterations) i dn nn mn → v .iterations ≤ i + 1 → iterationsOf f c d ≡ i + 1
   at-last at h = omega (arith, made .iterations)
 
 -- ---- the loop
@@ -169,34 +156,34 @@ module _ {f : Format} {c d : ℕ} {v : Vector} (made : Vectored f c d v) where
 abbrev pub turnOf : Format → ℕ → (ℕ → ℕ → ℕ → Step) → ℕ → ℕ → ℕ → ℕ → Step
 turnOf f c one d n m i = one (stepOf (bankOf f) (strideOf c) d i) (stepOf (bankOf f) (strideOf c) n i) (secondOf (bankOf f) (strideOf c) m i)
 
-pub at-one : {f : Format} {c d n m count i dn nn mn : ℕ} → At f c d n m count i dn nn mn → (one : ℕ → ℕ → ℕ → Step) → one dn nn mn ≡ turnOf f c one d n m i
+at-one : {f : Format} {c d n m count i dn nn mn : ℕ} → At f c d n m count i dn nn mn → (one : ℕ → ℕ → ℕ → Step) → one dn nn mn ≡ turnOf f c one d n m i
 at-one at one = rw (at .first, at .second, at .third)
 
--- one turn of a loop that does the steps of a family
-turn : (i : ℕ) (each : ℕ → Step) (one : Step) (st x y : State) → y ≡ step one x → one ≡ each i → x ≡ after i each st → y ≡ after (i + 1) each st
-turn i each one st x y d e h = d ∙ ap (λ (z : Step). step z x) e ∙ after-one i each st x h
-
--- before iteration i: its registers, and what the earlier ones did
-pub record Turning (f : Format) (c : ℕ) (one : ℕ → ℕ → ℕ → Step) (d n m count : ℕ) (s₀ s : List ℕ) (dn nn mn i : ℕ) : Type 0 where
+-- Before iteration i: its registers, and what the earlier ones did to what is seen of s: every p sees something else of it.
+pub record Turning {P S X : Type 0} (first : ℕ → (ℕ → Step) → X → X) (see : P → S → X) (f : Format) (c : ℕ) (one : P → ℕ → ℕ → ℕ → Step) (d n m count : ℕ) (s₀ s : S) (dn nn mn i : ℕ) : Type 0 where
   pub at : At f c d n m count i dn nn mn
-  pub did : (q : Machine) (w : List ℕ) → state (withS q s) w ≡ after i (turnOf f c one d n m) (state (withS q s₀) w)
+  pub did : (p : P) → see p s ≡ first i (turnOf f c (one p) d n m) (see p s₀)
 
-module _ {f : Format} {c : ℕ} {one : ℕ → ℕ → ℕ → Step} {d n m : ℕ} {v : Vector} {s₀ : List ℕ} (made : Vectored f c d v) where
-  pub begun : d < 32 → n < 32 → m < 32 → Turning f c one d n m (v .iterations) s₀ s₀ d n m 0
-  begun dh nh mh = record { at = at-first made dh nh mh; did = λ q w. after-none _ _ }
+module _ {P S X : Type 0} {first : ℕ → (ℕ → Step) → X → X} {see : P → S → X} {f : Format} {c : ℕ} {one : P → ℕ → ℕ → ℕ → Step} {d n m : ℕ} {v : Vector} {s₀ : S} where
+  pub begun : ((each : ℕ → Step) (x : X) → x ≡ first 0 each x) → Vectored f c d v → d < 32 → n < 32 → m < 32 → Turning first see f c one d n m (v .iterations) s₀ s₀ d n m 0
+  begun none made dh nh mh = record { at = at-first made dh nh mh; did = λ p. none _ _ }
 
-  module _ {s s′ : List ℕ} {dn nn mn i : ℕ} (here : Turning f c one d n m (v .iterations) s₀ s dn nn mn i)
-      (does : (q : Machine) (w : List ℕ) → state (withS q s′) w ≡ step (one dn nn mn) (state (withS q s) w)) where
-    did-one : (q : Machine) (w : List ℕ) → state (withS q s′) w ≡ after (i + 1) (turnOf f c one d n m) (state (withS q s₀) w)
-    did-one q w =
-        turn i (turnOf f c one d n m) (one dn nn mn) (state (withS q s₀) w) (state (withS q s) w) _ (does q w) (at-one (here .at) one) (here .did q w)
+  module _ (acts : Step → X → X) (next : (i : ℕ) (each : ℕ → Step) (x y : X) → y ≡ first i each x → acts (each i) y ≡ first (i + 1) each x)
+      (made : Vectored f c d v) {s s′ : S} {dn nn mn i : ℕ} (here : Turning first see f c one d n m (v .iterations) s₀ s dn nn mn i)
+      (does : (p : P) → see p s′ ≡ acts (one p dn nn mn) (see p s)) where
+    did-one : (p : P) → see p s′ ≡ first (i + 1) (turnOf f c (one p) d n m) (see p s₀)
+    did-one p = does p ∙ ap (λ (z : Step). acts z (see p s)) (at-one (here .at) (one p)) ∙ next i (turnOf f c (one p) d n m) (see p s₀) (see p s) (here .did p)
 
     pub again : {x y z : ℕ} → i + 1 < v .iterations → x ≡ stepOf (v .bank) (v .stride) dn 1 → y ≡ stepOf (v .bank) (v .stride) nn 1 → z ≡ secondOf (v .bank) (v .stride) mn 1
-        → Turning f c one d n m (v .iterations) s₀ s′ x y z (i + 1)
-    again h p q r = record { at = at-next made (here .at) h p q r; did = did-one }
+        → Turning first see f c one d n m (v .iterations) s₀ s′ x y z (i + 1)
+    again h x y z = record { at = at-next made (here .at) h x y z; did = did-one }
 
-    pub ended : v .iterations ≤ i + 1 → (q : Machine) (w : List ℕ) → state (withS q s′) w ≡ after (iterationsOf f c d) (turnOf f c one d n m) (state (withS q s₀) w)
-    ended h q w = rw (at-last made (here .at) h) (did-one q w)
+    pub ended : v .iterations ≤ i + 1 → (p : P) → see p s′ ≡ first (iterationsOf f c d) (turnOf f c (one p) d n m) (see p s₀)
+    ended h p = rw (at-last made (here .at) h) (did-one p)
+
+-- the places with the singles s
+abbrev pub singles : Machine × List ℕ → List ℕ → State
+singles p s = state (withS (p .0) s) (p .1)
 
 -- a distance of at most seven strides
 pub small : (i s : ℕ) → i < 8 → s ≤ 2 → i * s ≤ 14

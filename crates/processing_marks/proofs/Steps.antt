@@ -1,5 +1,5 @@
 -- The marks that one step leaves, over the precision.
-use Prim.Native.Nat.{ℕ, _+_, _<_, _≤_}
+use Prim.Native.Nat.{ℕ}
 use mathlib.Core.Path.{_≡_, refl, ap, _∙_}
 use mathlib.Core.Bool.{Bool, true, false, _&&_}
 use mathlib.Core.List.{List, [], _∷_}
@@ -9,13 +9,9 @@ use Rattle.machine.specs.Registers.{lowIndex, highIndex}
 use Rattle.machine.specs.Place.{Place, sWord}
 use Rattle.meaning.specs.declared.Known.{Known}
 use Rattle.meaning.specs.Map.{Map, mapFrom}
-use Rattle.meaning.specs.Step.{Step, allKnown, stepMarks, afterMarks}
-use Rattle.meaning.proofs.Laws.{marks-none, marks-one}
+use Rattle.meaning.specs.Step.{allKnown, stepMarks}
 use Rattle.numbers.specs.declared.arithmetic.Arithmetic.{Arithmetic}
 use Rattle.processing.specs.declared.sign.Sign.{Sign}
-use Rattle.processing.specs.declared.vector.Vector.{Vector}
-use Rattle.processing.specs.Vector.{iterationsOf, stepOf, secondOf, Vectored}
-use Rattle.processing.proofs.Turns.{At, turnOf, at-one, at-first, at-next, at-last}
 use Rattle.processing.specs.Register.{wordsOf, written, signStep}
 use Rattle.processing.specs.Data.{operands, arithmeticStep, rootStep, compareStep, compareZeroStep, widenStep, narrowStep, fromStep, truncateStep, roundStep}
 use Rattle.processing_marks.specs.Marked.{flagged}
@@ -70,28 +66,10 @@ module _ (s r : List Bool) (k : Known) (w : List ℕ) where
   pub round-marks : (f : Format) (sign : Bool) (d m : ℕ) → stepMarks (roundStep f sign d m) (mapFrom s r k w) ≡ mapFrom (markIn binary32 s d (knownIn f s m && k .control)) r k w
   round-marks f sign d m = ap (λ (b : Bool). mapFrom (markIn binary32 s d (b && k .control)) r k w) (all-known f (m ∷ []))
 
--- one turn of a loop that leaves the marks of a family of steps
-turn : (i : ℕ) (each : ℕ → Step) (one : Step) (μ x y : Map) → y ≡ stepMarks one x → one ≡ each i → x ≡ afterMarks i each μ → y ≡ afterMarks (i + 1) each μ
-turn i each one μ x y d e h = d ∙ ap (λ (z : Step). stepMarks z x) e ∙ marks-one i each μ x h
+-- the marks with those of the singles s
+abbrev pub singles : List Bool × Known × List ℕ → List Bool → Map
+singles p s = mapFrom s (p .0) (p .1) (p .2)
 
--- before iteration i: its registers, and the marks of the earlier ones, for every a that a step may depend on
-pub record Marking {A : Type 0} (f : Format) (c : ℕ) (one : A → ℕ → ℕ → ℕ → Step) (d n m count : ℕ) (s₀ s : List Bool) (dn nn mn i : ℕ) : Type 0 where
-  pub at : At f c d n m count i dn nn mn
-  pub did : (a : A) (r : List Bool) (k : Known) (w : List ℕ) → mapFrom s r k w ≡ afterMarks i (turnOf f c (one a) d n m) (mapFrom s₀ r k w)
-
-module _ {A : Type 0} {f : Format} {c : ℕ} {one : A → ℕ → ℕ → ℕ → Step} {d n m : ℕ} {v : Vector} {s₀ : List Bool} (made : Vectored f c d v) where
-  pub begun : d < 32 → n < 32 → m < 32 → Marking f c one d n m (v .iterations) s₀ s₀ d n m 0
-  begun dh nh mh = record { at = at-first made dh nh mh; did = λ a r k w. marks-none _ _ }
-
-  module _ {s s′ : List Bool} {dn nn mn i : ℕ} (here : Marking f c one d n m (v .iterations) s₀ s dn nn mn i)
-      (does : (a : A) (r : List Bool) (k : Known) (w : List ℕ) → mapFrom s′ r k w ≡ stepMarks (one a dn nn mn) (mapFrom s r k w)) where
-    did-one : (a : A) (r : List Bool) (k : Known) (w : List ℕ) → mapFrom s′ r k w ≡ afterMarks (i + 1) (turnOf f c (one a) d n m) (mapFrom s₀ r k w)
-    did-one a r k w =
-        turn i (turnOf f c (one a) d n m) (one a dn nn mn) (mapFrom s₀ r k w) (mapFrom s r k w) _ (does a r k w) (at-one (here .at) (one a)) (here .did a r k w)
-
-    pub again : {x y z : ℕ} → i + 1 < v .iterations → x ≡ stepOf (v .bank) (v .stride) dn 1 → y ≡ stepOf (v .bank) (v .stride) nn 1 → z ≡ secondOf (v .bank) (v .stride) mn 1
-        → Marking f c one d n m (v .iterations) s₀ s′ x y z (i + 1)
-    again h p q r = record { at = at-next made (here .at) h p q r; did = did-one }
-
-    pub ended : v .iterations ≤ i + 1 → (a : A) (r : List Bool) (k : Known) (w : List ℕ) → mapFrom s′ r k w ≡ afterMarks (iterationsOf f c d) (turnOf f c (one a) d n m) (mapFrom s₀ r k w)
-    ended h a r k w = rw (at-last made (here .at) h) (did-one a r k w)
+-- the same beside any sign
+abbrev pub signed : Sign × (List Bool × Known × List ℕ) → List Bool → Map
+signed p = singles (p .1)

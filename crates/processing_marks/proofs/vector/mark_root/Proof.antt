@@ -4,14 +4,16 @@ use mathlib.Core.Path.{sym}
 use native.Mathlib.Omega.{arith}
 use borrow.Author.Needs.{needs}
 use Rattle.processing.specs.Vector.{precision}
-use Rattle.processing.proofs.Turns.{may-go}
+use Rattle.meaning.specs.Step.{stepMarks, afterMarks}
+use Rattle.meaning.proofs.Laws.{marks-none, marks-one}
+use Rattle.processing.proofs.Turns.{Turning, may-go, begun, again, ended}
 use Rattle.processing.specs.Data.{rootStep}
-use Rattle.processing_marks.proofs.Steps.{Marking, begun, again, ended, root-marks}
+use Rattle.processing_marks.proofs.Steps.{singles, root-marks}
 use Rattle.processing_marks.proofs.vector.mark_root.Statement.{statement}
 use Rattle.processing_marks.proofs.vector.mark_root.Tie as tie
 
 abbrev Inv-loop : tie.InvT-loop
-Inv-loop ks₀ control double d m vector count dn₀ mn₀ i₀ ks dn mn i = Marking {A = Unit} (precision double) control (λ a. λ d n m. rootStep (precision double) control d m) dn₀ dn₀ mn₀ count ks₀ ks dn dn mn i
+Inv-loop ks₀ control double d m vector count dn₀ mn₀ i₀ ks dn mn i = Turning afterMarks singles (precision double) control (λ p. λ d n m. rootStep (precision double) control d m) dn₀ dn₀ mn₀ count ks₀ ks dn dn mn i
 
 abbrev μ-loop : tie.MeasureT-loop
 μ-loop ks₀ control double d m vector count dn₀ mn₀ i₀ ks dn mn i = count - i
@@ -20,7 +22,7 @@ new-requires : tie.Need-new-requires Inv-loop μ-loop
 new-requires c κs = search needs
 
 loop-holds : tie.Need-loop-holds Inv-loop μ-loop
-loop-holds c = begun (c .new .ensures) (omega arith) (omega arith) (omega arith)
+loop-holds c = begun marks-none (c .new .ensures) (omega arith) (omega arith) (omega arith)
 
 known-requires : tie.Need-known-requires Inv-loop μ-loop
 known-requires c κs = search needs
@@ -32,7 +34,7 @@ add-i : tie.Need-add-i Inv-loop μ-loop
 add-i c = omega arith
 
 returns : tie.Need-returns Inv-loop μ-loop
-returns c = ended (c .before .before .before .before .before .before .new .ensures) (c .before .before .before .before .before .loop .inv) (λ a r k w. rw (c .before .mark .ensures, c .before .before .before .known .ensures) (sym (root-marks (c .before .before .before .before .before .loop .ks) r k w (precision (c .before .before .before .before .before .before .before .args .double)) (c .before .before .before .before .before .before .before .args .control) (c .before .before .before .before .before .loop .dn) (c .before .before .before .before .before .loop .mn)))) (c .if1 .taken) tt
+returns c = λ r k w. ended stepMarks marks-one (c .before .before .before .before .before .before .new .ensures) (c .before .before .before .before .before .loop .inv) (λ p. rw (c .before .mark .ensures, c .before .before .before .known .ensures) (sym (root-marks (c .before .before .before .before .before .loop .ks) (p .0) (p .1) (p .2) (precision (c .before .before .before .before .before .before .before .args .double)) (c .before .before .before .before .before .before .before .args .control) (c .before .before .before .before .before .loop .dn) (c .before .before .before .before .before .loop .mn)))) (c .if1 .taken) (r, k, w)
 
 step-requires : tie.Need-step-requires Inv-loop μ-loop
 step-requires c κs = may-go (c .before .before .before .before .before .before .new .ensures) (c .before .before .before .before .before .loop .inv .at .d-within)
@@ -44,7 +46,7 @@ loop-less : tie.Need-loop-less Inv-loop μ-loop
 loop-less c = omega arith
 
 loop-again : tie.Need-loop-again Inv-loop μ-loop
-loop-again c = again (c .before .before .before .before .before .before .before .before .new .ensures) (c .before .before .before .before .before .before .before .loop .inv) (λ a r k w. rw (c .before .before .before .mark .ensures, c .before .before .before .before .before .known .ensures) (sym (root-marks (c .before .before .before .before .before .before .before .loop .ks) r k w (precision (c .before .before .before .before .before .before .before .before .before .args .double)) (c .before .before .before .before .before .before .before .before .before .args .control) (c .before .before .before .before .before .before .before .loop .dn) (c .before .before .before .before .before .before .before .loop .mn)))) (omega arith) (c .before .step .ensures) (c .before .step .ensures) (c .second .ensures)
+loop-again c = again stepMarks marks-one (c .before .before .before .before .before .before .before .before .new .ensures) (c .before .before .before .before .before .before .before .loop .inv) (λ p. rw (c .before .before .before .mark .ensures, c .before .before .before .before .before .known .ensures) (sym (root-marks (c .before .before .before .before .before .before .before .loop .ks) (p .0) (p .1) (p .2) (precision (c .before .before .before .before .before .before .before .before .before .args .double)) (c .before .before .before .before .before .before .before .before .before .args .control) (c .before .before .before .before .before .before .before .loop .dn) (c .before .before .before .before .before .before .before .loop .mn)))) (omega arith) (c .before .step .ensures) (c .before .step .ensures) (c .second .ensures)
 
 pub mark-root-spec : {M : Type 1} → statement M
 mark-root-spec =
