@@ -11,6 +11,8 @@ use Rattle.meaning.specs.Run as R
 use Rattle.meaning.specs.Hang as H
 use Rattle.run.specs.Word.{meaning}
 use Rattle.run.specs.Run.{stopOf}
+use Rattle.meaning.specs.declared.Known.{Known}
+use Rattle.watch.specs.declared.word.Seen.{Seen}
 use Rattle.watch.specs.declared.Watched.{Watched}
 use Rattle.watch.specs.declared.hang.Hang.{Hang}
 use Rattle.watch.specs.declared.hang.Hang.the-variants.{Clear, At}
@@ -20,6 +22,10 @@ use Rattle.watch.specs.Limit.{watchLimit}
 abbrev pub hangIs : Hang → H.Hang
 hangIs Clear = H.clear
 hangIs (At p) = H.at p
+
+-- the marks that are no array, as a word leaves them
+abbrev pub knownIn : Seen → Known
+knownIn e = record { flags = e .flags; control = e .control; exc = e .exc; nzcv = e .nzcv }
 
 -- a report and a count, with the machine, the window and the map that are left
 pub record Reply : Type 0 where

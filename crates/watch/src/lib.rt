@@ -88,7 +88,12 @@ fn watch_words(
             op,
         );
         x = done.controls;
-        k = done.known;
+        k = Known {
+            flags: done.flags,
+            control: done.control,
+            exc: done.exc,
+            nzcv: done.nzcv,
+        };
         let next = done.next;
         match next {
             Next::On => {

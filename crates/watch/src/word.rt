@@ -14,6 +14,7 @@ ghost use Rattle.memory.specs.LoadStore.{loadStoreTree};
 ghost use Rattle.transfers.specs.Transfer.{transferTree};
 ghost use Rattle.run.specs.Word.{classTree, meaning};
 ghost use Rattle.run.specs.Run.{nextOf};
+ghost use Rattle.watch.specs.Watch.{knownIn};
 use super::hang::Hang;
 use super::hang::hang_access;
 use super::hang::hang_data;
@@ -34,10 +35,14 @@ use transfers::single::single_core;
 use transfers::system::system;
 use vfp::current_pc;
 
-// What is no array of the machine and of the marks after a word, and what follows it.
+// What is no array of the machine and of the marks after a word, and what follows it. The marks stand one by one: a `Known` in here would be
+// packed into one number and taken apart again at every word.
 pub struct Seen {
     pub controls: Controls,
-    pub known: Known,
+    pub flags: bool,
+    pub control: bool,
+    pub exc: bool,
+    pub nzcv: bool,
     pub next: Next,
 }
 
@@ -54,12 +59,15 @@ pub fn watch_word(
     base: u32,
     op: u32,
 ) -> Seen
-    ensures { λ e. ⌜ seen (state (assembled (now (s .exit)) (now (r .exit)) (e .controls) false) (now (window .exit))) (mapFrom (now (ks .exit)) (now (kr .exit)) (e .known) (now («window_marks» .exit))) (nextOf (e .next)) ≡ watched (meaning base op) (state (assembled (now (s .entry)) (now (r .entry)) x false) (now (window .entry))) (mapFrom (now (ks .entry)) (now (kr .entry)) k (now («window_marks» .entry))) ⌝ }
+    ensures { λ e. ⌜ seen (state (assembled (now (s .exit)) (now (r .exit)) (e .controls) false) (now (window .exit))) (mapFrom (now (ks .exit)) (now (kr .exit)) (knownIn e) (now («window_marks» .exit))) (nextOf (e .next)) ≡ watched (meaning base op) (state (assembled (now (s .entry)) (now (r .entry)) x false) (now (window .entry))) (mapFrom (now (ks .entry)) (now (kr .entry)) k (now («window_marks» .entry))) ⌝ }
 {
     if foreign(op) {
         return Seen {
             controls: x,
-            known: k,
+            flags: k.flags,
+            control: k.control,
+            exc: k.exc,
+            nzcv: k.nzcv,
             next: Next::Halt(Stop::Foreign),
         };
     }
@@ -68,7 +76,10 @@ pub fn watch_word(
         if !k.nzcv {
             return Seen {
                 controls: x,
-                known: k,
+                flags: k.flags,
+                control: k.control,
+                exc: k.exc,
+                nzcv: k.nzcv,
                 next: Next::Halt(Stop::Hangs(51)),
             };
         }
@@ -76,7 +87,10 @@ pub fn watch_word(
         if !check_condition(condition, flags) {
             return Seen {
                 controls: x,
-                known: k,
+                flags: k.flags,
+                control: k.control,
+                exc: k.exc,
+                nzcv: k.nzcv,
                 next: Next::On, // skipped, and counted
             };
         }
@@ -97,13 +111,16 @@ fn watch_class(
     base: u32,
     op: u32,
 ) -> Seen
-    ensures { λ e. ⌜ seen (state (assembled (now (s .exit)) (now (r .exit)) (e .controls) false) (now (window .exit))) (mapFrom (now (ks .exit)) (now (kr .exit)) (e .known) (now («window_marks» .exit))) (nextOf (e .next)) ≡ watched (classTree base op) (state (assembled (now (s .entry)) (now (r .entry)) x false) (now (window .entry))) (mapFrom (now (ks .entry)) (now (kr .entry)) k (now («window_marks» .entry))) ⌝ }
+    ensures { λ e. ⌜ seen (state (assembled (now (s .exit)) (now (r .exit)) (e .controls) false) (now (window .exit))) (mapFrom (now (ks .exit)) (now (kr .exit)) (knownIn e) (now («window_marks» .exit))) (nextOf (e .next)) ≡ watched (classTree base op) (state (assembled (now (s .entry)) (now (r .entry)) x false) (now (window .entry))) (mapFrom (now (ks .entry)) (now (kr .entry)) k (now («window_marks» .entry))) ⌝ }
 {
     if bits(op, 25, 27) == 0b110 {
         let next = watch_access(s, r, window, ks, kr, window_marks, base, op);
         return Seen {
             controls: x,
-            known: k,
+            flags: k.flags,
+            control: k.control,
+            exc: k.exc,
+            nzcv: k.nzcv,
             next,
         };
     }
@@ -147,14 +164,17 @@ fn watch_transfer(
     k: Known,
     op: u32,
 ) -> Seen
-    ensures { λ e. ⌜ ((v w : List ℕ) → seen (state (assembled (now (s .exit)) (now (r .exit)) (e .controls) false) v) (mapFrom (now (ks .exit)) (now (kr .exit)) (e .known) w) (nextOf (e .next)) ≡ watched (transferTree false op) (state (assembled (now (s .entry)) (now (r .entry)) x false) v) (mapFrom (now (ks .entry)) (now (kr .entry)) k w)) ⌝ }
+    ensures { λ e. ⌜ ((v w : List ℕ) → seen (state (assembled (now (s .exit)) (now (r .exit)) (e .controls) false) v) (mapFrom (now (ks .exit)) (now (kr .exit)) (knownIn e) w) (nextOf (e .next)) ≡ watched (transferTree false op) (state (assembled (now (s .entry)) (now (r .entry)) x false) v) (mapFrom (now (ks .entry)) (now (kr .entry)) k w)) ⌝ }
 {
     let opc1 = bits(op, 21, 23);
     if opc1 == 7 {
         let known = mark_system(kr, k, op);
         return Seen {
             controls: system(r, x, op),
-            known,
+            flags: known.flags,
+            control: known.control,
+            exc: known.exc,
+            nzcv: known.nzcv,
             next: Next::On,
         };
     }
@@ -163,19 +183,28 @@ fn watch_transfer(
         if single_core(s, r, false, op) {
             return Seen {
                 controls: x,
-                known: k,
+                flags: k.flags,
+                control: k.control,
+                exc: k.exc,
+                nzcv: k.nzcv,
                 next: Next::Last,
             };
         }
         return Seen {
             controls: x,
-            known: k,
+            flags: k.flags,
+            control: k.control,
+            exc: k.exc,
+            nzcv: k.nzcv,
             next: Next::On,
         };
     }
     Seen {
         controls: x,
-        known: k,
+        flags: k.flags,
+        control: k.control,
+        exc: k.exc,
+        nzcv: k.nzcv,
         next: Next::On,
     }
 }
@@ -190,13 +219,16 @@ fn watch_data(
     k: Known,
     op: u32,
 ) -> Seen
-    ensures { λ e. ⌜ ((v w : List ℕ) → seen (state (assembled (now (s .exit)) (now (r .entry)) (e .controls) false) v) (mapFrom (now (ks .exit)) (now (kr .entry)) (e .known) w) (nextOf (e .next)) ≡ watched (dataTree false op) (state (assembled (now (s .entry)) (now (r .entry)) x false) v) (mapFrom (now (ks .entry)) (now (kr .entry)) k w)) ⌝ }
+    ensures { λ e. ⌜ ((v w : List ℕ) → seen (state (assembled (now (s .exit)) (now (r .entry)) (e .controls) false) v) (mapFrom (now (ks .exit)) (now (kr .entry)) (knownIn e) w) (nextOf (e .next)) ≡ watched (dataTree false op) (state (assembled (now (s .entry)) (now (r .entry)) x false) v) (mapFrom (now (ks .entry)) (now (kr .entry)) k w)) ⌝ }
 {
     let hang = hang_data(kr, k, op);
     match hang {
         Hang::At(place) => Seen {
             controls: x,
-            known: k,
+            flags: k.flags,
+            control: k.control,
+            exc: k.exc,
+            nzcv: k.nzcv,
             next: Next::Halt(Stop::Hangs(place)),
         },
         Hang::Clear => {
@@ -211,7 +243,10 @@ fn watch_data(
                             fpexc: x.fpexc,
                             cpsr,
                         },
-                        known,
+                        flags: known.flags,
+                        control: known.control,
+                        exc: known.exc,
+                        nzcv: known.nzcv,
                         next: Next::On,
                     }
                 }
@@ -219,7 +254,10 @@ fn watch_data(
                     let pc = current_pc(r[15], false);
                     Seen {
                         controls: x,
-                        known,
+                        flags: known.flags,
+                        control: known.control,
+                        exc: known.exc,
+                        nzcv: known.nzcv,
                         next: Next::Halt(Stop::Undefined { pc, opcode: op }),
                     }
                 }
