@@ -1,9 +1,10 @@
 -- The arithmetic of one step by the tests that the code makes, and what its result depends on. Over the format. Assumes nothing.
 use mathlib.Core.Path.{_≡_, refl, sym, ap, _∙_}
 use mathlib.Core.Bool.{Bool, true, false, _&&_, _||_, cond}
-use Prim.Native.Nat.{ℕ}
+use Prim.Native.Nat.{ℕ, _/_, _%_, _^_}
 use lib.Ieee.{Float, Format, ofBits, toBits, nanBits}
 use Rattle.numbers.specs.Flush.{flush}
+use Rattle.numbers.proofs.Flushing.{flush-off}
 use Rattle.numbers.specs.Arithmetic.{apply, accumulates, defaultNan, applied, arithmetic}
 use Rattle.numbers.specs.declared.arithmetic.Arithmetic.{Arithmetic}
 use Rattle.numbers.specs.declared.arithmetic.Arithmetic.the-variants.{MultiplyAccumulate, MultiplySubtract, NegateMultiplySubtract, NegateMultiplyAccumulate, Multiply, NegateMultiply, Add, Subtract, Divide}
@@ -68,3 +69,8 @@ without-d f control kind n m d e a =
 pub stored : (f : Format) (control : ℕ) (kind : Arithmetic) (n m d r b : ℕ) → r ≡ flush f control b → b ≡ applied f kind n m d → r ≡ arithmetic f control kind n m d
 unfolding arithmetic
 stored f control kind n m d r b e h = e ∙ ap (flush f control) h
+
+-- where FPSCR bit 24 is clear, nothing is flushed
+pub kept : (f : Format) (control : ℕ) (kind : Arithmetic) (n m d : ℕ) → control / 2 ^ 24 % 2 ≡ 0 → arithmetic f control kind n m d ≡ applied f kind n m d
+unfolding arithmetic
+kept f control kind n m d h = sym (flush-off f control (applied f kind n m d) h)

@@ -1,6 +1,6 @@
 -- What one step of a word does to the words of its registers, over the precision.
 use Prim.Native.Nat.{ℕ, _%_, _/_, _^_, _≤_}
-use mathlib.Core.Path.{_≡_, refl, ap, sym}
+use mathlib.Core.Path.{_≡_, refl, ap, sym, _∙_}
 use mathlib.Core.Bool.{Bool, true, false, cond}
 use mathlib.Core.List.{[], _∷_}
 use lib.Ieee.{Format, binary32, binary64}
@@ -10,8 +10,8 @@ use Rattle.machine.specs.Place.{State, get, put, sWord, lowWord, highWord}
 use Rattle.meaning.specs.Step.{step, fst, snd, rest}
 use Rattle.numbers.specs.declared.arithmetic.Arithmetic.{Arithmetic}
 use Rattle.numbers.specs.declared.arithmetic.Arithmetic.the-variants.{Divide}
-use Rattle.numbers.specs.Arithmetic.{arithmetic, accumulates}
-use Rattle.numbers.proofs.Applying.{without-d}
+use Rattle.numbers.specs.Arithmetic.{applied, arithmetic, accumulates}
+use Rattle.numbers.proofs.Applying.{without-d, kept}
 use Rattle.processing.specs.Register.{wordsOf, valuesOf, written}
 use Rattle.processing.specs.Data.{arithmeticStep, kinds, arithmeticAt}
 
@@ -36,6 +36,11 @@ arithmetic-step f c kind d n m st = by f (accumulates kind) refl
     by binary64 true e = refl
     by binary32 false e = ap (store binary32 st d) (without-d binary32 c kind (fetch binary32 st n) (fetch binary32 st m) 0 (fetch binary32 st d) e)
     by binary64 false e = ap (store binary64 st d) (without-d binary64 c kind (fetch binary64 st n) (fetch binary64 st m) 0 (fetch binary64 st d) e)
+
+-- where FPSCR bit 24 is clear
+pub kept-step : (f : Format) (c : ℕ) (kind : Arithmetic) (d n m : ℕ) (st : State) → c / 2 ^ 24 % 2 ≡ 0
+    → step (arithmeticStep f c kind d n m) st ≡ store f st d (applied f kind (fetch f st n) (fetch f st m) (fetch f st d))
+kept-step f c kind d n m st h = arithmetic-step f c kind d n m st ∙ ap (store f st d) (kept f c kind (fetch f st n) (fetch f st m) (fetch f st d) h)
 
 -- the last kind
 pub past : (k : ℕ) → 8 ≤ k → Divide ≡ arithmeticAt k
