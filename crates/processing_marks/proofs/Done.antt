@@ -1,7 +1,10 @@
 -- From the marks that a leaf leaves to those that its word means, over the precision.
-use Prim.Native.Nat.{ℕ, _%_, _^_}
-use mathlib.Core.Path.{_≡_, refl}
-use mathlib.Core.Bool.{Bool, true, false, cond}
+use Prim.Native.Nat.{ℕ, _%_, _^_, _<_}
+use mathlib.Core.Path.{_≡_, refl, _∙_}
+use native.Mathlib.Omega.{arith}
+use native.Mathlib.Decide.{ℕ-discrete}
+use lib.Dec.{eqb}
+use mathlib.Core.Bool.{Bool, true, false, cond, _&&_}
 use mathlib.Core.List.{List}
 use lib.Ieee.{Format}
 use Rattle.machine.specs.Machine.{withFpscr}
@@ -12,11 +15,14 @@ use Rattle.meaning.specs.Step.{Step, stepMarks, afterMarks, once}
 use Rattle.meaning.specs.Tree.{Tree, go}
 use Rattle.meaning.proofs.Laws.{marked-ask, marked-family, marked-once, marked-stop}
 use Rattle.numbers.specs.declared.arithmetic.Arithmetic.{Arithmetic}
-use Rattle.processing.specs.declared.sign.Sign.the-variants.{Kept, Cleared}
+use Rattle.bits.specs.Field.{field, bitOf}
+use Rattle.processing.specs.declared.sign.Sign.{Sign}
+use Rattle.processing.specs.declared.sign.Sign.the-variants.{Kept, Cleared, Flipped}
+use Rattle.processing.proofs.Done.{extension-is}
 use Rattle.processing.specs.Vector.{iterationsOf}
 use Rattle.processing.specs.Operation.{extensionBy}
 use Rattle.processing.specs.Register.{signStep}
-use Rattle.processing.specs.Data.{regD, regN, regM, stepping, dyadicStep, monadicStep, dyadic, monadic, undefinedTree, operationTree}
+use Rattle.processing.specs.Data.{regD, regN, regM, stepping, dyadicStep, monadicStep, dyadic, monadic, undefinedTree, operationTree, extensionTree}
 use Rattle.processing_marks.specs.Marked.{Marked}
 
 module _ (fpscr : ℕ) (s s′ : List Bool) (k : Known) (t : Bool → Tree) where
@@ -57,3 +63,23 @@ pub sign-either : (f : Format) (w : ℕ) (thumb b : Bool) → operationTree thum
 unfolding operationTree extensionBy
 sign-either f w thumb true = refl
 sign-either f w thumb false = refl
+
+-- what becomes of the sign, by bits 19:16 below 2 and bit 7: VMOV, VABS, VNEG
+abbrev pub changeOf : ℕ → Bool → Sign
+changeOf k b = cond (eqb k 0) (cond b Cleared Kept) Flipped
+
+pub sign-below : (f : Format) (w k : ℕ) (b thumb : Bool) → k ≡ field w 16 19 → b ≡ bitOf w 7 → k < 2 → eqb k 1 && b ≡ false
+    → extensionTree f w thumb ≡ monadic f w (λ c. signStep f (changeOf k b))
+unfolding operationTree extensionBy
+sign-below f w k b thumb p q l n = by (ℕ-discrete k 0)
+  where
+    plain : (x : ℕ) → x ≡ 1 → eqb x 1 && b ≡ false → b ≡ false
+    plain x e h = rw e at h
+
+    by : Dec (k ≡ 0) → extensionTree f w thumb ≡ monadic f w (λ c. signStep f (changeOf k b))
+    by (yes e) = extension-is f w thumb 0 b k b p e q refl ∙ sign-either f w thumb b ∙ rw e
+    by (no z) = let e : k ≡ 1 = omega (arith, z, l) in extension-is f w thumb 1 false k b p e q (plain k e n) ∙ rw e
+
+pub both : (a b : Bool) → a && b ≡ true → (a ≡ true) × (b ≡ true)
+both true b e = (refl, e)
+both false b e = let z : _≡_ {A = ℕ} 0 1 = cc in absurd (omega arith)

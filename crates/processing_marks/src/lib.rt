@@ -67,39 +67,28 @@ fn mark_extension(ks: &mut [bool; 32], k: Known, fpscr: u32, double: bool, op: u
 {
     let opc2 = bits(op, 16, 19);
     let top = bit(op, 7);
+    // VSQRT; VMOV, VABS, VNEG
+    if (opc2 == 0b0001) & top {
+        mark_root(
+            ks,
+            fpscr % 0x1000_0000,
+            double,
+            reg_d(op, double),
+            reg_m(op, double),
+        );
+        return k;
+    }
+    if opc2 < 0b0010 {
+        mark_sign(
+            ks,
+            fpscr % 0x1000_0000,
+            double,
+            reg_d(op, double),
+            reg_m(op, double),
+        );
+        return k;
+    }
     match opc2 {
-        // VMOV, VABS
-        0b0000 => {
-            mark_sign(
-                ks,
-                fpscr % 0x1000_0000,
-                double,
-                reg_d(op, double),
-                reg_m(op, double),
-            );
-            k
-        }
-        // VNEG, VSQRT
-        0b0001 => {
-            if top {
-                mark_root(
-                    ks,
-                    fpscr % 0x1000_0000,
-                    double,
-                    reg_d(op, double),
-                    reg_m(op, double),
-                );
-                return k;
-            }
-            mark_sign(
-                ks,
-                fpscr % 0x1000_0000,
-                double,
-                reg_d(op, double),
-                reg_m(op, double),
-            );
-            k
-        }
         // VCMP, VCMPE: from both operands, with zero from one
         0b0100 => with_flags(
             k,
