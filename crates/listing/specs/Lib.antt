@@ -1,0 +1,5 @@
+-- What a text says: numbers, places and words, and the text that is printed.
+pub mod Number
+pub mod Place
+pub mod Text
+pub mod Token

@@ -1,0 +1,19 @@
+-- The words of a line.
+use Prim.Native.Nat.{ℕ, suc}
+use mathlib.Core.Bool.{Bool, true, false, cond, _||_, Bool·beq}
+use mathlib.Core.List.{List, [], _∷_}
+use lib.Dec.{eqb}
+
+-- how many bytes stand before the first b
+unfoldable pub beforeOf : ℕ → List ℕ → ℕ
+beforeOf b [] = 0
+beforeOf b (x ∷ xs) = cond (eqb x b) 0 (suc (beforeOf b xs))
+
+-- a space or a tab
+abbrev pub isGap : ℕ → Bool
+isGap b = cond (eqb b 32) true (eqb b 9)
+
+-- how many bytes are gaps, or are none, before the first that is not so
+unfoldable pub leadingOf : Bool → List ℕ → ℕ
+leadingOf g [] = 0
+leadingOf g (x ∷ xs) = cond (Bool·beq (isGap x) g) (suc (leadingOf g xs)) 0
