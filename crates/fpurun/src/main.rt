@@ -19,6 +19,7 @@ ghost use lib.ListN.{length};
 mod input;
 mod items;
 mod mistakes;
+mod output;
 mod report;
 
 use input::Input;

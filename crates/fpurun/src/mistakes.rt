@@ -1,4 +1,6 @@
 // A mistake in a text, told with its line and what was expected there.
+use super::output::low;
+use super::output::say;
 use libc::STDOUT_FILENO;
 use listing::line::Expected;
 use listing::text::Text;
@@ -15,25 +17,15 @@ pub enum Mistake {
     Refused(u8),
 }
 
-pub fn say(t: Text) {
-    let n = t.count;
-    let b = t.bytes;
-    if n <= 128 {
-        io::write_all(STDOUT_FILENO, &b[..n]);
-    }
-}
-
-pub fn low(x: usize) -> u32 {
-    (x % 0x1_0000_0000) as u32
+fn begun(line: usize) -> Text {
+    Text::new()
+        .add(b"line ")
+        .add_decimal(low(line))
+        .add(b": expected ")
 }
 
 fn expected(line: usize, what: &[u8]) {
-    say(
-        Text::new()
-            .add(b"line ")
-            .add_decimal(low(line))
-            .add(b": expected "),
-    );
+    say(begun(line));
     io::write_all(STDOUT_FILENO, what);
     io::write_all(STDOUT_FILENO, b"\n");
 }
@@ -68,13 +60,8 @@ fn tell_item(line: usize, e: Expected) {
 }
 
 fn tell_beyond(line: usize, words: usize) {
-    expected(line, b"a place within the window's words:");
-    say(
-        Text::new()
-            .add(b"the window has ")
-            .add_decimal(low(words))
-            .add(b"\n"),
-    );
+    let t = begun(line).add(b"a place of the machine or of the window, which has ");
+    say(t.add_decimal(low(words)).add(b" words\n"));
 }
 
 fn tell_refused(line: usize, n: u8) {

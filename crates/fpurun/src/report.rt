@@ -1,6 +1,6 @@
 // What came of a run: the stop, the places that are unknown, and what changed.
-use super::mistakes::low;
-use super::mistakes::say;
+use super::output::low;
+use super::output::say;
 use libc::STDOUT_FILENO;
 use listing::text::Text;
 

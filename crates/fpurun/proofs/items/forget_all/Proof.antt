@@ -3,18 +3,17 @@ use borrow.Author.Needs.{needs}
 use Prim.Native.Nat.{_-_}
 use native.Mathlib.Omega.{arith}
 use lib.ListN.{length}
-use mathlib.Core.Path.{_≡_}
 use Rattle.fpurun.proofs.items.forget_all.Statement.{statement}
 use Rattle.fpurun.proofs.items.forget_all.Tie as tie
 
 abbrev Inv-loop : tie.InvT-loop
-Inv-loop layout marks₀ window-marks₀ line from words at₀ marks window-marks at = (at₀ ≡ at₀)
+Inv-loop layout marks₀ window-marks₀ line from words at₀ marks window-marks at = Unit {0}
 
 abbrev μ-loop : tie.MeasureT-loop
 μ-loop layout marks₀ window-marks₀ line from words at₀ marks window-marks at = length line - at
 
 loop-holds : tie.Need-loop-holds Inv-loop μ-loop
-loop-holds c = search needs
+loop-holds c = tt
 
 next-place-requires : tie.Need-next-place-requires Inv-loop μ-loop
 next-place-requires c κs = search needs
@@ -35,7 +34,7 @@ loop-less : tie.Need-loop-less Inv-loop μ-loop
 loop-less c = omega (arith, c .before .before .before .before .before .before .before .before .next-place .ensures _ _ (c .before .before .before .before .before .before .next .given .1) .0, c .before .before .before .before .before .before .before .before .next-place .ensures _ _ (c .before .before .before .before .before .before .next .given .1) .1)
 
 loop-again : tie.Need-loop-again Inv-loop μ-loop
-loop-again c = search needs
+loop-again c = tt
 
 enum-told : tie.Need-enum-told Inv-loop μ-loop
 enum-told c = search needs

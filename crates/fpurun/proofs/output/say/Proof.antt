@@ -1,11 +1,11 @@
--- `fpurun::mistakes::say` meets its contract.
+-- `fpurun::output::say` meets its contract.
 use mathlib.Core.Path.{_≡_, sym}
 use lib.Seq.{length-take-le}
 use lib.ListN.{length}
 use native.Mathlib.Omega.{arith}
 use borrow.Author.Needs.{needs}
-use Rattle.fpurun.proofs.mistakes.say.Statement.{statement}
-use Rattle.fpurun.proofs.mistakes.say.Tie as tie
+use Rattle.fpurun.proofs.output.say.Statement.{statement}
+use Rattle.fpurun.proofs.output.say.Tie as tie
 
 array-share-prefix-b : tie.Need-array-share-prefix-b
 array-share-prefix-b c = let h : length ((c .before .before .args .t) .bytes) ≡ 128 = search needs in omega arith
