@@ -5,4 +5,5 @@ pub mod Spelling
 pub mod Clipping
 pub mod Words
 pub mod Names
+pub mod Items
 pub mod Back

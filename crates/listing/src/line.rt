@@ -2,6 +2,7 @@
 ghost use mathlib.Core.Path.{_≡_};
 ghost use Prim.Native.Nat.{ℕ, _≤_, _<_};
 ghost use lib.ListN.{length};
+ghost use Rattle.listing.specs.Line.{itemOf, endedOf, setOf, setTo, windowOf, windowFrom, unknownOf};
 use super::number::Number;
 use super::number::decimal_of;
 use super::number::hex_of;
@@ -41,7 +42,9 @@ pub enum Next {
 }
 
 // The item of a line, which has no comment and no line end.
-pub fn item_of(line: &[u8]) -> Item {
+pub fn item_of(line: &[u8]) -> Item
+    ensures { λ r. ⌜ r ≡ itemOf (now (line .entry)) ⌝ }
+{
     let t = first(line);
     let start = t.start;
     let end = t.end;
@@ -69,7 +72,9 @@ pub fn item_of(line: &[u8]) -> Item {
 }
 
 // An item that nothing may follow.
-fn ended(rest: &[u8], item: Item) -> Item {
+fn ended(rest: &[u8], item: Item) -> Item
+    ensures { λ r. ⌜ r ≡ endedOf (now (rest .entry)) item ⌝ }
+{
     let t = first(rest);
     if t.start == t.end {
         return item;
@@ -77,7 +82,9 @@ fn ended(rest: &[u8], item: Item) -> Item {
     Item::Mistake(Expected::End)
 }
 
-fn set_of(rest: &[u8]) -> Item {
+fn set_of(rest: &[u8]) -> Item
+    ensures { λ r. ⌜ r ≡ setOf (now (rest .entry)) ⌝ }
+{
     let t = first(rest);
     let start = t.start;
     let end = t.end;
@@ -87,7 +94,9 @@ fn set_of(rest: &[u8]) -> Item {
     set_to(place, &rest[end..])
 }
 
-fn set_to(place: u32, rest: &[u8]) -> Item {
+fn set_to(place: u32, rest: &[u8]) -> Item
+    ensures { λ r. ⌜ r ≡ setTo place (now (rest .entry)) ⌝ }
+{
     let t = first(rest);
     let start = t.start;
     let end = t.end;
@@ -103,7 +112,9 @@ fn set_to(place: u32, rest: &[u8]) -> Item {
     Item::Mistake(Expected::Flags)
 }
 
-fn window_of(rest: &[u8]) -> Item {
+fn window_of(rest: &[u8]) -> Item
+    ensures { λ r. ⌜ r ≡ windowOf (now (rest .entry)) ⌝ }
+{
     let t = first(rest);
     let start = t.start;
     let end = t.end;
@@ -113,7 +124,9 @@ fn window_of(rest: &[u8]) -> Item {
     window_from(base, &rest[end..])
 }
 
-fn window_from(base: u32, rest: &[u8]) -> Item {
+fn window_from(base: u32, rest: &[u8]) -> Item
+    ensures { λ r. ⌜ r ≡ windowFrom base (now (rest .entry)) ⌝ }
+{
     let t = first(rest);
     let start = t.start;
     let end = t.end;
@@ -124,7 +137,9 @@ fn window_from(base: u32, rest: &[u8]) -> Item {
 }
 
 // At least one place is named.
-fn unknown_of(rest: &[u8], from: usize) -> Item {
+fn unknown_of(rest: &[u8], from: usize) -> Item
+    ensures { λ r. ⌜ r ≡ unknownOf from (now (rest .entry)) ⌝ }
+{
     let t = first(rest);
     if t.start == t.end {
         return Item::Mistake(Expected::Place);
