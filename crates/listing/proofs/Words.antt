@@ -7,10 +7,10 @@ use mathlib.Core.Bool.{Bool, true, false, Bool·beq}
 use mathlib.Core.List.{List}
 use lib.ListN.{length, getD, take, drop, length-drop, length-take, drop-of-length-le}
 use lib.Seq.{drop-cons}
-use borrow.Author.Tests.{eq-eqb, ne-eqb}
+use borrow.Author.Tests.{eq-eqb, ne-eqb, lt-ltb, le-ltb}
 use Rattle.listing.proofs.Reading.{rest}
 use Rattle.listing.specs.declared.line.Next.the-variants.{Place, End, Mistake}
-use Rattle.listing.specs.Token.{beforeOf, isGap, leadingOf}
+use Rattle.listing.specs.Token.{beforeOf, contentOf, isGap, leadingOf}
 
 module _ (b : ℕ) (t : List ℕ) (i : ℕ) where
   pub before-here : i < length t → getD t i 0 ≡ b → i ≡ i + beforeOf b (drop i t)
@@ -37,6 +37,26 @@ module _ (g : Bool) (t : List ℕ) (i : ℕ) where
   pub leading-end : length t ≤ i → i ≡ i + leadingOf g (drop i t)
   unfolding leadingOf
   leading-end h = rw (drop-of-length-le t h) (omega arith)
+
+-- how much of a line counts
+module _ (l : List ℕ) (n : ℕ) (e : n ≡ beforeOf 35 l) where
+  pub content-comment : n < length l → n ≡ contentOf l
+  unfolding contentOf
+  content-comment h = rw (← e, lt-ltb n (length l) h)
+
+  module _ (h : length l ≤ n) where
+    pub content-none : n ≡ 0 → 0 ≡ contentOf l
+    unfolding contentOf
+    content-none z = rw (← e, le-ltb n (length l) h, eq-eqb n 0 z)
+
+    module _ (z : n ≡ 0 → ⊥) where
+      pub content-return : getD l (n - 1) 0 ≡ 13 → n - 1 ≡ contentOf l
+      unfolding contentOf
+      content-return q = rw (← e, le-ltb n (length l) h, ne-eqb n 0 z, eq-eqb (getD l (n - 1) 0) 13 q)
+
+      pub content-whole : (getD l (n - 1) 0 ≡ 13 → ⊥) → n ≡ contentOf l
+      unfolding contentOf
+      content-whole q = rw (← e, le-ltb n (length l) h, ne-eqb n 0 z, ne-eqb (getD l (n - 1) 0) 13 q)
 
 -- a word within what stands from a on
 pub part-end : (t : List ℕ) (a n : ℕ) → a ≤ length t → n ≤ length (take (length t - a) (drop a t)) → a + n ≤ length t

@@ -3,7 +3,7 @@ ghost use mathlib.Core.Path.{_≡_};
 ghost use mathlib.Core.Bool.{true, false};
 ghost use Prim.Native.Nat.{_+_, _≤_};
 ghost use lib.ListN.{length, drop};
-ghost use Rattle.listing.specs.Token.{beforeOf, isGap, leadingOf};
+ghost use Rattle.listing.specs.Token.{beforeOf, contentOf, isGap, leadingOf};
 
 // A word of a line: from start up to end. Both are the same where there is none.
 pub struct Token {
@@ -27,7 +27,7 @@ pub fn before(text: &[u8], b: u8) -> usize
 
 // How much of a line counts: what stands before a comment, without the carriage return at its end.
 pub fn content(line: &[u8]) -> usize
-    ensures { λ r. ⌜ r ≤ length (now (line .entry)) ⌝ }
+    ensures { λ r. ⌜ (r ≤ length (now (line .entry))) × (r ≡ contentOf (now (line .entry))) ⌝ }
 {
     let n = before(line, b'#');
     if n < line.len() {

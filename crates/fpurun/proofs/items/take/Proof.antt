@@ -37,7 +37,7 @@ content-requires : tie.Need-content-requires Inv-loop μ-loop
 content-requires c κs = search needs
 
 slice-aggregate-take-line : tie.Need-slice-aggregate-take-line Inv-loop μ-loop
-slice-aggregate-take-line c = sym (length-take-le _ _ (c .before .content .ensures))
+slice-aggregate-take-line c = sym (length-take-le _ _ (c .before .content .ensures .0))
 
 take-line-requires : tie.Need-take-line-requires Inv-loop μ-loop
 take-line-requires c κs = search needs
