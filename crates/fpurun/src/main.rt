@@ -1,0 +1,153 @@
+// Runs a list of instruction words under the watch, and tells where the run stops, what it hangs on and what is known then.
+//
+// It reads the file that its argument names, or standard input, one item a line:
+//
+//     EE300A00              an instruction word, eight hexadecimal digits
+//     set PLACE VALUE       what a place holds at power-up, 1 to 8 hexadecimal digits, 0x before them or not
+//     unknown PLACE..       places of which nothing is known at power-up
+//     window BASE COUNT     so many words of memory (decimal) from an address on (hexadecimal)
+//
+// Spaces and tabs stand between words, a '#' starts a comment, a line may end in CR LF. A place is s0 to s31, r0 to r15, flags (FPSCR
+// 31:28), control (FPSCR 27:0), fpexc, nzcv, w0 on (a word of the window) or its number. The value of flags and of nzcv has four
+// bits, that of control 28. All that is not said is known and as a new machine has it; the window's words are 0. A set makes
+// no place known: one that is unknown stays so, whatever it is set to.
+//
+// A mistake is answered with its line and what was expected there, and nothing is run.
+ghost use mathlib.Core.Path.{_≡_};
+ghost use lib.ListN.{length};
+
+mod input;
+mod items;
+mod mistakes;
+mod output;
+mod report;
+
+use input::Input;
+use items::Layout;
+use items::Taken;
+use libc::STDIN_FILENO;
+use libc::STDOUT_FILENO;
+
+// Reads the text, and runs what it says.
+fn run_text(text: &[u8]) {
+    let mut state = [0u32; 52];
+    let mut marks = [1u8; 52];
+    let mut window = [0u32; 16384];
+    let mut window_marks = [1u8; 16384];
+    let mut list = [0u32; 4096];
+    fpu::fpu_new(&mut state);
+    let taken = items::take(
+        text,
+        &mut state,
+        &mut marks,
+        &mut window,
+        &mut window_marks,
+        &mut list,
+    );
+    match taken {
+        Taken::Wrong { line, mistake } => mistakes::tell(line, mistake),
+        Taken::All(layout) => run_list(layout, state, marks, window, window_marks, list),
+    }
+}
+
+// Runs the list, and tells what came of it beside what was there before.
+fn run_list(
+    layout: Layout,
+    state: [u32; 52],
+    marks: [u8; 52],
+    window: [u32; 16384],
+    window_marks: [u8; 16384],
+    list: [u32; 4096],
+) {
+    let words = layout.words;
+    let count = layout.count;
+    if 16384 < words {
+        return;
+    }
+    if 4096 < count {
+        return;
+    }
+    let mut s = state;
+    let mut m = marks;
+    let mut w = window;
+    let mut v = window_marks;
+    run_parts(
+        layout.base,
+        &mut s,
+        &mut m,
+        &mut w[..words],
+        &mut v[..words],
+        &list[..count],
+        &state,
+        &marks,
+        &window[..words],
+        &window_marks[..words],
+    );
+}
+
+// The words and marks of the state and of the window, to be run and as they are before.
+fn run_parts(
+    base: u32,
+    s: &mut [u32],
+    m: &mut [u8],
+    w: &mut [u32],
+    v: &mut [u8],
+    list: &[u32],
+    state: &[u32],
+    marks: &[u8],
+    window: &[u32],
+    window_marks: &[u8],
+) {
+    let mut answer = [0u32; 4];
+    let kind = fpu::fpu_watch(s, m, w, v, base, 0, list, &mut answer);
+    report::stop(kind, answer, list, s, m);
+    report::unknown(m, v);
+    report::changed(state, marks, window, window_marks, s, m, w, v);
+}
+
+// Room for a text.
+fn room() -> [u8; 524288]
+    ensures { λ r. ⌜ 524288 ≡ length r ⌝ }
+{
+    [0; 524288]
+}
+
+// A text that fills its room may go on: it is not run.
+fn run_input(fd: i32, name: &[u8]) {
+    let mut text = room();
+    match input::read_all(fd, &mut text) {
+        Input::Failed => os::fail(name),
+        Input::Bytes(n) => {
+            if n < 524288 {
+                run_text(&text[..n]);
+                return;
+            }
+            mistakes::too_long(&text);
+        }
+    }
+}
+
+fn main() {
+    let given = os::arg_count();
+    if given < 2 {
+        run_input(STDIN_FILENO, b"standard input");
+        return;
+    }
+    if 2 < given {
+        io::write_all(STDOUT_FILENO, b"usage: fpurun [FILE]\n");
+        return;
+    }
+    let mut path = io::buffer();
+    let n = os::arg(1, &mut path);
+    if os::errno() != 0 {
+        os::fail(b"the file's name");
+        return;
+    }
+    let fd = os::open_read(&path[..n]);
+    if fd < 0 {
+        os::fail(&path[..n]);
+        return;
+    }
+    run_input(fd, &path[..n]);
+    libc::close(fd);
+}

@@ -1,0 +1,94 @@
+// A mistake in a text, told with its line and what was expected there.
+use super::output::low;
+use super::output::say;
+use libc::STDOUT_FILENO;
+use listing::line::Expected;
+use listing::text::Text;
+
+pub enum Mistake {
+    Item(Expected),
+    // a word of the window that is not there; the window has so many
+    Beyond(usize),
+    // a list with one word too many
+    Words,
+    // a second window
+    Again,
+    // a window that a run would refuse, by the number of the refusal
+    Refused(u8),
+}
+
+fn begun(line: usize) -> Text {
+    Text::new()
+        .add(b"line ")
+        .add_decimal(low(line))
+        .add(b": expected ")
+}
+
+fn expected(line: usize, what: &[u8]) {
+    say(begun(line));
+    io::write_all(STDOUT_FILENO, what);
+    io::write_all(STDOUT_FILENO, b"\n");
+}
+
+pub fn tell(line: usize, mistake: Mistake) {
+    match mistake {
+        Mistake::Item(e) => tell_item(line, e),
+        Mistake::Beyond(words) => tell_beyond(line, words),
+        Mistake::Words => expected(line, b"at most 4096 instruction words"),
+        Mistake::Again => expected(line, b"one window only"),
+        Mistake::Refused(n) => tell_refused(line, n),
+    }
+}
+
+fn tell_item(line: usize, e: Expected) {
+    match e {
+        Expected::Item => expected(
+            line,
+            b"an instruction word of eight hexadecimal digits, set, unknown or window",
+        ),
+        Expected::Place => expected(
+            line,
+            b"a place: s0 to s31, r0 to r15, flags, control, fpexc, nzcv, w0 on, or its number",
+        ),
+        Expected::Value => expected(line, b"a value of 1 to 8 hexadecimal digits"),
+        Expected::Flags => expected(line, b"a value of four bits, 0 to F"),
+        Expected::Control => expected(line, b"a value of 28 bits, 0 to FFFFFFF"),
+        Expected::Base => expected(line, b"a base of 1 to 8 hexadecimal digits"),
+        Expected::Count => expected(line, b"a count of words in decimal"),
+        Expected::End => expected(line, b"the line's end"),
+    }
+}
+
+fn tell_beyond(line: usize, words: usize) {
+    let t = begun(line).add(b"a place of the machine or of the window, which has ");
+    say(t.add_decimal(low(words)).add(b" words\n"));
+}
+
+fn tell_refused(line: usize, n: u8) {
+    match n {
+        2 => expected(line, b"a window of at most 16384 words"),
+        3 => expected(line, b"a base that is a multiple of 4"),
+        _ => expected(
+            line,
+            b"a window that ends within memory, base + 4 * count at most 2^32",
+        ),
+    }
+}
+
+// The line that a text ends in.
+fn last_line(text: &[u8]) -> usize {
+    let mut line: usize = 1;
+    let mut i: usize = 0;
+    while i < text.len() {
+        if text[i] == b'\n' {
+            line += 1;
+        }
+        i += 1;
+    }
+    line
+}
+
+// A text of too many bytes.
+pub fn too_long(text: &[u8]) {
+    expected(last_line(text), b"a text of at most 524287 bytes");
+}

@@ -1,0 +1,16 @@
+// Texts to standard output.
+use libc::STDOUT_FILENO;
+use listing::text::Text;
+
+pub fn say(t: Text) {
+    let n = t.count;
+    let b = t.bytes;
+    if n <= 128 {
+        io::write_all(STDOUT_FILENO, &b[..n]);
+    }
+}
+
+// A count as a number to print.
+pub fn low(x: usize) -> u32 {
+    (x % 0x1_0000_0000) as u32
+}

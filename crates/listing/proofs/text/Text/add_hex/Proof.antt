@@ -1,0 +1,26 @@
+-- `listing::text::Text::add_hex` meets its contract.
+use Rattle.listing.specs.Number.{hexText}
+use borrow.Author.Needs.{needs}
+use Rattle.listing.proofs.text.Text.add_hex.Statement.{statement}
+use Rattle.listing.proofs.text.Text.add_hex.Tie as tie
+
+slice-aggregate-spell : tie.Need-slice-aggregate-spell
+slice-aggregate-spell c = search needs
+
+spell-requires : tie.Need-spell-requires
+spell-requires c κs = search needs
+
+slice-aggregate-add : tie.Need-slice-aggregate-add
+slice-aggregate-add c = search needs
+
+add-requires : tie.Need-add-requires
+add-requires c κs = search needs
+
+returns : tie.Need-returns
+unfolding hexText
+returns c = rw (c .before .before .before .spell .ensures) at (c .add .ensures)
+
+pub add-hex-spec : {M : Type 1} → statement M
+add-hex-spec =
+    tie.close
+    (tie.spec slice-aggregate-spell spell-requires slice-aggregate-add add-requires returns)

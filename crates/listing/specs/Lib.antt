@@ -1,0 +1,6 @@
+-- What a text says: numbers, places and words, and the text that is printed.
+pub mod Line
+pub mod Number
+pub mod Place
+pub mod Text
+pub mod Token

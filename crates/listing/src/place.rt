@@ -1,0 +1,79 @@
+// A place's name, or its number, as text.
+ghost use mathlib.Core.Path.{_≡_};
+ghost use Prim.Native.Nat.{_+_, _<_, _^_};
+ghost use lib.Dec.{ltb};
+ghost use Rattle.machine.specs.Place.{place as placeAt};
+ghost use Rattle.listing.specs.Place.{placeOf, letterOf, within, width};
+use super::number::Number;
+use super::number::decimal_of;
+
+// The number of the place that a text names.
+pub fn place_of(text: &[u8]) -> Number
+    ensures { λ r. ⌜ r ≡ placeOf (now (text .entry)) ⌝ }
+{
+    if check::same(text, b"flags") {
+        return Number::Value(48);
+    }
+    if check::same(text, b"control") {
+        return Number::Value(49);
+    }
+    if check::same(text, b"fpexc") {
+        return Number::Value(50);
+    }
+    if check::same(text, b"nzcv") {
+        return Number::Value(51);
+    }
+    letter_of(text)
+}
+
+// A letter with a number after it, or the place's own number.
+fn letter_of(text: &[u8]) -> Number
+    ensures { λ r. ⌜ r ≡ letterOf (now (text .entry)) ⌝ }
+{
+    if text.len() < 1 {
+        return Number::Wrong;
+    }
+    let letter = text[0];
+    if letter == b's' {
+        return placed(decimal_of(&text[1..]), 0, 32);
+    }
+    if letter == b'r' {
+        return placed(decimal_of(&text[1..]), 32, 16);
+    }
+    if letter == b'w' {
+        return placed(decimal_of(&text[1..]), 52, 16384);
+    }
+    placed(decimal_of(text), 0, 16436)
+}
+
+// A number below a count, from the first place of its kind on.
+fn placed(n: Number, from: u32, count: u32) -> Number
+    requires { ⌜ from + count < 2 ^ 32 ⌝ }
+    ensures { λ r. ⌜ r ≡ within n from count ⌝ }
+{
+    match n {
+        Number::Value(k) => {
+            if k < count {
+                return Number::Value(from + k);
+            }
+            Number::Wrong
+        }
+        Number::Wrong => Number::Wrong,
+    }
+}
+
+// Whether a value has no bit outside its place's own.
+pub fn fits(place: u32, value: u32) -> bool
+    ensures { λ r. ⌜ r ≡ ltb value (2 ^ width (placeAt place)) ⌝ }
+{
+    if place == 48 {
+        return value < 16;
+    }
+    if place == 49 {
+        return value < 0x1000_0000;
+    }
+    if place == 51 {
+        return value < 16;
+    }
+    true
+}
