@@ -1,5 +1,5 @@
--- Exactness of the mark rules, through the definition: for each operation in both widths, and for transfers and pairs, document 01's rule gives
--- sources for targets. With just the sources known and what the word asks for, and with any one source unknown, the map that the word leaves is
+-- Exactness of the mark rules, through the definition: for each operation in both widths, and for transfers, pairs, loads and stores over a window of
+-- four words from 0 on, document 01's rule gives sources for targets. With just the sources known and what the word asks for, and with any one source unknown, the map that the word leaves is
 -- the rule's, and no other mark changes.
 use Prim.Native.Nat.{ℕ}
 use mathlib.Core.Path.{_≡_, refl}
@@ -9,6 +9,7 @@ use lib.Dec.{eqb}
 use lib.ListN.{replicate}
 use Rattle.machine.specs.Machine.{newMachine}
 use Rattle.machine.specs.Place.{place, state}
+use Rattle.machine.specs.Window.{wordAt}
 use Rattle.meaning.specs.Map.{Map, mapOf, known, mark}
 use Rattle.meaning.specs.Step.{after, afterMarks}
 use Rattle.meaning.specs.Tree.{watched}
@@ -39,7 +40,7 @@ row w a r = record { word = w; asks = a; rules = r }
 -- ---- the rules on maps
 
 pub nothingKnown : Map
-nothingKnown = mapOf (record { s = replicate 32 false; r = replicate 16 false; flags = false; control = false; exc = false; nzcv = false }) []
+nothingKnown = mapOf (record { s = replicate 32 false; r = replicate 16 false; flags = false; control = false; exc = false; nzcv = false }) (0 ∷ 0 ∷ 0 ∷ 0 ∷ [])
 
 pub marks : List ℕ → Bool → Map → Map
 marks [] b μ = μ
@@ -67,7 +68,7 @@ tried x =
 
 -- what the word leaves, and what the rules say
 pub left : Row → List Map
-left x = map (λ μ. watched (meaning 0 (x .word)) (state newMachine []) μ .map) (tried x)
+left x = map (λ μ. watched (meaning 0 (x .word)) (state newMachine (0 ∷ 0 ∷ 0 ∷ 0 ∷ [])) μ .map) (tried x)
 
 pub should : Row → List Map
 should x = map (λ μ. ruled μ (x .rules) μ) (tried x)
@@ -134,8 +135,16 @@ rows =
     ∷ row 0xEC432A13 ([]) (from (34 ∷ []) (6 ∷ []) ∷ from (35 ∷ []) (7 ∷ []) ∷ [])
     ∷ row 0xEC532B13 ([]) (from (6 ∷ []) (34 ∷ []) ∷ from (7 ∷ []) (35 ∷ []) ∷ [])
     ∷ row 0xEC432B13 ([]) (from (34 ∷ []) (6 ∷ []) ∷ from (35 ∷ []) (7 ∷ []) ∷ [])
+    ∷ row 0xED911A01 (33 ∷ []) (from (53 ∷ []) (2 ∷ []) ∷ [])
+    ∷ row 0xED811A01 (33 ∷ []) (from (2 ∷ []) (53 ∷ []) ∷ [])
+    ∷ row 0xED911B00 (33 ∷ []) (from (52 ∷ []) (2 ∷ []) ∷ from (53 ∷ []) (3 ∷ []) ∷ [])
+    ∷ row 0xED811B00 (33 ∷ []) (from (2 ∷ []) (52 ∷ []) ∷ from (3 ∷ []) (53 ∷ []) ∷ [])
+    ∷ row 0xEC911A03 (33 ∷ []) (from (52 ∷ []) (2 ∷ []) ∷ from (53 ∷ []) (3 ∷ []) ∷ from (54 ∷ []) (4 ∷ []) ∷ [])
+    ∷ row 0xEC811A03 (33 ∷ []) (from (2 ∷ []) (52 ∷ []) ∷ from (3 ∷ []) (53 ∷ []) ∷ from (4 ∷ []) (54 ∷ []) ∷ [])
+    ∷ row 0xECB11B04 (33 ∷ []) (from (52 ∷ []) (2 ∷ []) ∷ from (53 ∷ []) (3 ∷ []) ∷ from (54 ∷ []) (4 ∷ []) ∷ from (55 ∷ []) (5 ∷ []) ∷ [])
+    ∷ row 0xED911A10 (33 ∷ []) (from ([]) (2 ∷ []) ∷ [])
     ∷ []
 
 pub exact : map left rows ≡ map should rows
-unfolding left should tried sourcesOf ruled all marks nothingKnown rows watched meaning classTree conditioned dataTree operationTree operationOf operationBy extensionBy arithmetics transferTree loadStoreTree accessTree after afterMarks stepOf secondOf place
+unfolding left should tried sourcesOf ruled all marks nothingKnown rows watched meaning classTree conditioned dataTree operationTree operationOf operationBy extensionBy arithmetics transferTree loadStoreTree accessTree after afterMarks stepOf secondOf place wordAt
 exact = refl
