@@ -13,7 +13,7 @@ use Rattle.memory.specs.LoadStore.{accessTree, loadStoreTree}
 use Rattle.processing.specs.Operation.{extensionBy, operationBy, operationOf}
 use Rattle.processing.specs.Vector.{stepOf, secondOf}
 use Rattle.processing.specs.Data.{operationTree, dataTree}
-use Rattle.vfp.specs.Limit.{windowLimit}
+use Rattle.limits.specs.Limit.{windowLimit}
 use Rattle.claims.specs.Values.{Values}
 
 pub values : Values

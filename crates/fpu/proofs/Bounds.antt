@@ -19,12 +19,12 @@ use Rattle.processing.specs.Operation.{Operation, operationOf, fmac, fnmac, fms
 use Rattle.processing.specs.Data.{operationTree, dataTree, undefinedTree}
 use Rattle.transfers.specs.Transfer.{transferTree, systemTree, singleTree}
 use Rattle.memory.specs.LoadStore.{accessTree, loadStoreTree}
-use Rattle.run.specs.Limit.{runLimit, mostList}
+use Rattle.limits.specs.Limit.{runLimit}
 use Rattle.run.specs.Word.{foreignWord, classTree, conditioned, meaning}
 use Rattle.run.specs.declared.Ran.{Ran}
 use Rattle.watch.specs.declared.Watched.{Watched}
 use Rattle.watch.specs.Watch.{limitOf, watchReply}
-use Rattle.watch.proofs.Limits.{run-within}
+use Rattle.limits.proofs.Limits.{run-within, list-within}
 use Rattle.run.specs.Run as Run
 use Rattle.watch.specs.Watch as Watch
 use Rattle.meaning.specs.Run as R
@@ -180,14 +180,6 @@ module _ (M : ℕ → Tree) (near : (w : ℕ) → Near (M w)) where
       (watch-bounded ws (suc n) (step R.advance (o .st)) (o .map))
 
 -- ---- of replies
-
-list-within : (list base words : ℕ) (thumb : Bool) → runLimit list base words thumb ≡ 0 → list ≤ mostList
-unfolding runLimit
-list-within list base words thumb e = by (ltb mostList list) _ refl e
-  where
-    by : (b : Bool) (x : ℕ) → ltb mostList list ≡ b → cond b 1 x ≡ 0 → list ≤ mostList
-    by true x f g = let one : _≡_ {A = ℕ} 1 0 = g in absurd (omega (arith, one))
-    by false x f g = ltb-false mostList list f
 
 -- what fits in a word
 abbrev pub Fits : Report → ℕ → Type 0

@@ -10,7 +10,7 @@ use lib.Seq.{take-at, drop-at, getD-append-add}
 use borrow.Author.Tests.{eqb-true, ltb-true}
 use Rattle.bits.specs.Psr.{oneOf}
 use Rattle.meaning.specs.declared.Marks.{Marks}
-use Rattle.watch.specs.Limit.{bitsOnly}
+use Rattle.limits.specs.Marks.{bitsOnly}
 use Rattle.fpu.specs.Marking.{bytesOf, knownIn, marking, marked, marks}
 use Rattle.fpu.proofs.Calls.{fst, snd}
 use Rattle.fpu.proofs.Spelling.{in-parts}

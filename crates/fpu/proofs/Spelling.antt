@@ -14,7 +14,7 @@ use Rattle.bits.proofs.Flags.{psr-nzcv, nzcv-psr}
 use Rattle.machine.specs.declared.Machine.{Machine}
 use Rattle.machine.specs.Machine.{Sized}
 use Rattle.machine.specs.Place.{place, before, get, state}
-use Rattle.vfp.specs.Limit.{windowLimit}
+use Rattle.limits.specs.Limit.{windowLimit}
 use Rattle.vfp.specs.Call.{loadStoreReply}
 use Rattle.fpu.specs.Left.{left, called, usable}
 use Rattle.fpu.specs.Spelling.{spelling, spelled, Spells, inPosition}

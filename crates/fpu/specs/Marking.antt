@@ -6,7 +6,7 @@ use lib.Dec.{eqb}
 use lib.ListN.{length, getD, take, drop}
 use Rattle.bits.specs.Psr.{oneOf}
 use Rattle.meaning.specs.declared.Marks.{Marks}
-use Rattle.watch.specs.Limit.{bitsOnly}
+use Rattle.limits.specs.Marks.{bitsOnly}
 
 unfoldable pub bytesOf : List Bool → List ℕ
 bytesOf [] = []

@@ -16,11 +16,11 @@ ghost use Rattle.fpu.specs.Left.{left, called, ran, usable, answerOf, re
 ghost use Rattle.fpu.specs.Marking.{marking, marked};
 ghost use Rattle.fpu.specs.Observed.{observed, watchable, Kept};
 use bits::psr::Psr;
+use limits::marks::bits_only;
 use machine::Machine;
 use meaning::Marks;
 use run::Stop;
 use vfp::Exit;
-use watch::limit::bits_only;
 
 // Nothing was touched: a length, a bit of the state, a mark or thumb is not as it has to be.
 const USELESS: u32 = 255;

@@ -1,5 +1,6 @@
 // What a text says, line by line, laid out as the run takes it: the state's words and marks, the window's, and the list.
 use super::mistakes::Mistake;
+use limits::limit::window_limit;
 use listing::line::Expected;
 use listing::line::Item;
 use listing::line::Next;
@@ -7,7 +8,6 @@ use listing::line::item_of;
 use listing::line::next_place;
 use listing::token::before;
 use listing::token::content;
-use vfp::window_limit;
 
 // The window's base and count of words, whether one was given, and the count of instruction words.
 pub struct Layout {

@@ -1,21 +1,18 @@
 -- From the words' promises to the run's.
-use Prim.Native.Nat.{ℕ, zero, suc}
-use mathlib.Core.Path.{_≡_, refl, ap}
-use mathlib.Core.Bool.{Bool, true, false, cond}
+use Prim.Native.Nat.{ℕ}
+use mathlib.Core.Path.{_≡_, ap}
+use mathlib.Core.Bool.{false}
 use mathlib.Core.List.{List}
-use lib.Dec.{eqb, ltb}
 use lib.ListN.{length}
-use native.Mathlib.Omega.{arith}
 use borrow.Author.Tests.{ne-eqb}
 use Rattle.machine.specs.declared.Machine.{Machine}
 use Rattle.machine.specs.Machine.{assembled, controlsOf}
 use Rattle.machine.specs.Place.{State, state}
 use Rattle.meaning.specs.Stop.{report}
 use Rattle.meaning.specs.Run.{Ended, ended, run}
-use Rattle.vfp.specs.Limit.{windowLimit}
 use Rattle.run.specs.declared.Stop.{Stop}
 use Rattle.run.specs.declared.Ran.{Ran}
-use Rattle.run.specs.Limit.{runLimit, mostList}
+use Rattle.limits.specs.Limit.{runLimit}
 use Rattle.run.specs.Word.{meaning}
 use Rattle.run.specs.Run.{Reply, stopOf, answered, reply, runReply}
 use Rattle.meaning.specs.Stop as S
@@ -35,17 +32,3 @@ module _ (base : ℕ) (list : List ℕ) (st : State) (n : ℕ) (l : n ≡ runLim
 
   pub turned : (n ≡ 0 → ⊥) → record { says = report (S.refused n); count = 0; leaves = st } ≡ runReply base list st
   turned z = rw (← l, ne-eqb _ _ z)
-
--- within the limits the Thumb bit is clear
-pub arm : (list base words : ℕ) (thumb : Bool) → runLimit list base words thumb ≡ 0 → thumb ≡ false
-unfolding runLimit
-arm list base words false e = refl
-arm list base words true e = absurd (by (ltb mostList list) (windowLimit base words) e)
-  where
-    some : (k : ℕ) → cond (eqb k 0) 5 k ≡ 0 → ⊥
-    some zero h = omega arith
-    some (suc k) h = let g : suc k ≡ 0 = rw (ne-eqb (suc k) 0 (λ e. omega arith)) at h in omega arith
-
-    by : (b : Bool) (k : ℕ) → cond b 1 (cond (eqb k 0) (cond true 5 0) k) ≡ 0 → ⊥
-    by true k h = omega arith
-    by false k h = some k h

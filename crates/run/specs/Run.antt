@@ -14,7 +14,7 @@ use Rattle.run.specs.declared.Stop.the-variants.{Finished, Foreign, Unde
 use Rattle.run.specs.declared.Next.{Next}
 use Rattle.run.specs.declared.Next.the-variants.{On, Last, Halt}
 use Rattle.run.specs.declared.Ran.{Ran}
-use Rattle.run.specs.Limit.{runLimit}
+use Rattle.limits.specs.Limit.{runLimit}
 use Rattle.run.specs.Word.{meaning}
 
 -- the kind and the values of the code's stop; `report` gives their numbers

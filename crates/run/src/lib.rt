@@ -1,5 +1,4 @@
 // The plain run over a list of instruction words.
-pub mod limit;
 pub mod progress;
 pub mod rest;
 pub mod word;
@@ -10,7 +9,7 @@ ghost use Rattle.machine.specs.Place.{state};
 ghost use Rattle.meaning.specs.Run as R;
 ghost use Rattle.run.specs.Word.{meaning};
 ghost use Rattle.run.specs.Run.{answered, reply, runReply};
-use limit::run_limit;
+use limits::limit::run_limit;
 use machine::Machine;
 use progress::Progress;
 use word::advance;

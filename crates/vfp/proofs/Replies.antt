@@ -16,7 +16,7 @@ use Rattle.processing.specs.declared.Processed.the-variants.{Done, Undefined}
 use Rattle.processing.specs.Data.{behind, dataTree, treeOf, undefinedTree, Handled}
 use Rattle.transfers.specs.Transfer.{nextOf}
 use Rattle.memory.specs.LoadStore.{loadStoreTree}
-use Rattle.vfp.specs.Limit.{windowLimit}
+use Rattle.limits.specs.Limit.{windowLimit}
 use Rattle.vfp.specs.Call.{reply, loadStoreReply}
 
 -- the reply of a word whose plain evaluation is o

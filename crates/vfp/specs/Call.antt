@@ -11,7 +11,7 @@ use Rattle.memory.specs.LoadStore.{loadStoreTree}
 use Rattle.vfp.specs.declared.Exit.{Exit}
 use Rattle.vfp.specs.declared.Exit.the-variants as E
 use Rattle.vfp.specs.declared.Answer.{Answer}
-use Rattle.vfp.specs.Limit.{windowLimit}
+use Rattle.limits.specs.Limit.{windowLimit}
 
 -- the number and the values of an exit
 abbrev pub exitReport : Exit → Report

@@ -1,3 +1,2 @@
 -- What the three calls promise.
-pub mod Limit
 pub mod Call

@@ -6,8 +6,8 @@ ghost use lib.ListN.{length};
 ghost use Rattle.machine.specs.Place.{state};
 ghost use Rattle.processing.specs.Data.{behind, dataTree};
 ghost use Rattle.transfers.specs.Transfer.{transferTree};
-ghost use Rattle.vfp.specs.Limit.{windowLimit};
 ghost use Rattle.vfp.specs.Call.{answered, reply, loadStoreReply};
+use limits::limit::window_limit;
 use machine::Controls;
 use machine::Machine;
 use processing::Processed;
@@ -122,20 +122,4 @@ pub fn coprocessor_load_store(machine: Machine, window: &mut [u32], base: u32, o
             thumb: machine.thumb,
         },
     }
-}
-
-// The first of refusals 2, 3 and 4 that applies to a window of so many words, or 0.
-pub fn window_limit(base: u32, words: usize) -> u8
-    ensures { λ n. ⌜ n ≡ windowLimit base words ⌝ }
-{
-    if 16384 < words {
-        return 2;
-    }
-    if base % 4 != 0 {
-        return 3;
-    }
-    if 0x1_0000_0000 < base as usize + 4 * words {
-        return 4;
-    }
-    0
 }

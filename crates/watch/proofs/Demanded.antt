@@ -17,7 +17,7 @@ use Rattle.meaning.proofs.Prefix.{prefix}
 use Rattle.run.specs.Word.{meaning}
 use Rattle.watch.specs.Watch.{Reply, reply, limitOf, watchReply}
 use Rattle.watch.specs.Demand.{Agree, Alike, Mapped, Plainly, Demand3, Promise}
-use Rattle.watch.proofs.Limits.{run-within, marks-within, shorter}
+use Rattle.limits.proofs.Limits.{run-within, marks-within, shorter}
 use Rattle.meaning.specs.Run as R
 use Rattle.meaning.specs.Agree as A
 

@@ -1,7 +1,6 @@
 -- Laws of the crate's proofs, and demand 3.
 
 mod Hangs
-pub mod Limits
 mod Worded
 mod Replies
 pub mod Demanded

@@ -1,4 +1,3 @@
 -- What the watched run promises, demand 3 among it.
-pub mod Limit
 pub mod Watch
 pub mod Demand

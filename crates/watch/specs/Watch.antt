@@ -16,7 +16,7 @@ use Rattle.watch.specs.declared.word.Seen.{Seen}
 use Rattle.watch.specs.declared.Watched.{Watched}
 use Rattle.watch.specs.declared.hang.Hang.{Hang}
 use Rattle.watch.specs.declared.hang.Hang.the-variants.{Clear, At}
-use Rattle.watch.specs.Limit.{watchLimit}
+use Rattle.limits.specs.Limit.{watchLimit}
 
 -- the code's hang
 abbrev pub hangIs : Hang → H.Hang

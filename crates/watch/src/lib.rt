@@ -1,6 +1,5 @@
 // The watched run: the plain run with a map, which stops where the outcome would hang on an unknown place.
 pub mod hang;
-pub mod limit;
 pub mod word;
 
 ghost use mathlib.Core.Path.{_≡_};
@@ -12,7 +11,7 @@ ghost use Rattle.meaning.specs.Run as R;
 ghost use Rattle.run.specs.Word.{meaning};
 ghost use Rattle.watch.specs.Watch.{answered, reply};
 ghost use Rattle.watch.specs.Demand.{Promise};
-use limit::watch_limit;
+use limits::limit::watch_limit;
 use machine::Machine;
 use meaning::Known;
 use meaning::Marks;

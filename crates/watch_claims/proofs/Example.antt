@@ -14,11 +14,10 @@ use Rattle.meaning.specs.Tree.{watched}
 use Rattle.processing.specs.Data.{operationTree, dataTree}
 use Rattle.processing.specs.Operation.{extensionBy, arithmetics, operationBy, operationOf, operationAt}
 use Rattle.processing.specs.Vector.{stepOf, secondOf}
-use Rattle.run.specs.Limit.{runLimit}
+use Rattle.limits.specs.Marks.{bitsOnly}
+use Rattle.limits.specs.Limit.{windowLimit, runLimit, watchLimit}
 use Rattle.run.specs.Word.{classTree, conditioned, meaning}
 use Rattle.transfers.specs.Transfer.{transferTree}
-use Rattle.vfp.specs.Limit.{windowLimit}
-use Rattle.watch.specs.Limit.{bitsOnly, watchLimit}
 use Rattle.watch.specs.Watch.{Reply, watchReply}
 
 -- with no window: all known, and with the places of a list unknown

@@ -2,7 +2,8 @@
 use mathlib.Core.Path.{sym, _∙_}
 use denote.Ref.{now}
 use borrow.Author.Needs.{needs}
-use Rattle.run.proofs.Replies.{turned, allowed, arm}
+use Rattle.limits.proofs.Limits.{arm}
+use Rattle.run.proofs.Replies.{turned, allowed}
 use Rattle.machine.specs.Place.{state}
 use Rattle.run.proofs.run.Statement.{statement}
 use Rattle.run.proofs.run.Tie as tie

@@ -6,8 +6,7 @@ use Rattle.watch.specs.Demand.{Mapped}
 use Rattle.meaning.specs.Map.{mapOf}
 use Rattle.machine.specs.Machine.{Sized}
 use Rattle.machine.specs.Place.{state}
-use Rattle.run.proofs.Replies.{arm}
-use Rattle.watch.proofs.Limits.{run-within}
+use Rattle.limits.proofs.Limits.{run-within, arm}
 use Rattle.watch.proofs.Demanded.{refusing, promised, within}
 use Rattle.watch.proofs.watch.Statement.{statement}
 use Rattle.watch.proofs.watch.Tie as tie

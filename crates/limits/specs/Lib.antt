@@ -1,0 +1,3 @@
+-- When a call or a run is turned back.
+pub mod Limit
+pub mod Marks
