@@ -2,13 +2,7 @@
 ghost use mathlib.Core.Path.{_≡_};
 ghost use lib.ListN.{length};
 ghost use Rattle.layout.specs.State.{encode, decode, valid, Valid};
-use super::place::BEFORE_WINDOW;
-use super::place::CONTROL;
-use super::place::CORE;
-use super::place::EXC;
-use super::place::FLAGS;
-use super::place::NZCV;
-use super::place::SINGLES;
+use super::place;
 use bits::psr::Psr;
 use machine::Machine;
 
@@ -18,19 +12,19 @@ pub fn decode(state: &[u32], thumb: bool) -> Machine
     ensures { λ m. ⌜ m ≡ decode thumb (now (state .entry)) ⌝ }
 {
     let mut s = [0u32; 32];
-    for i in 0..SINGLES {
+    for i in 0..place::SINGLES {
         s[i] = state[i];
     }
     let mut r = [0u32; 16];
     for i in 0..16 {
-        r[i] = state[CORE + i];
+        r[i] = state[place::CORE + i];
     }
     Machine {
         s,
         r,
-        fpscr: state[FLAGS] + state[CONTROL],
-        fpexc: state[EXC],
-        cpsr: Psr::from_bits(state[NZCV]),
+        fpscr: state[place::FLAGS] + state[place::CONTROL],
+        fpexc: state[place::EXC],
+        cpsr: Psr::from_bits(state[place::NZCV]),
         thumb,
     }
 }
@@ -41,33 +35,33 @@ pub fn encode(machine: Machine, state: &mut [u32])
     ensures { λ _. ⌜ now (state .exit) ≡ encode machine ⌝ }
 {
     let s = machine.s;
-    for i in 0..SINGLES {
+    for i in 0..place::SINGLES {
         state[i] = s[i];
     }
     let r = machine.r;
     for i in 0..16 {
-        state[CORE + i] = r[i];
+        state[place::CORE + i] = r[i];
     }
     let fpscr = machine.fpscr;
     let cpsr = machine.cpsr;
-    state[FLAGS] = fpscr / 0x1000_0000 * 0x1000_0000;
-    state[CONTROL] = fpscr % 0x1000_0000;
-    state[EXC] = machine.fpexc;
-    state[NZCV] = Psr::to_bits(cpsr);
+    state[place::FLAGS] = fpscr / 0x1000_0000 * 0x1000_0000;
+    state[place::CONTROL] = fpscr % 0x1000_0000;
+    state[place::EXC] = machine.fpexc;
+    state[place::NZCV] = Psr::to_bits(cpsr);
 }
 
 // Whether words are a machine's.
 pub fn is_valid(state: &[u32]) -> bool
     ensures { λ r. ⌜ r ≡ valid (now (state .entry)) ⌝ }
 {
-    if state.len() != BEFORE_WINDOW {
+    if state.len() != place::BEFORE_WINDOW {
         return false;
     }
-    if state[FLAGS] % 0x1000_0000 != 0 {
+    if state[place::FLAGS] % 0x1000_0000 != 0 {
         return false;
     }
-    if 0x1000_0000 <= state[CONTROL] {
+    if 0x1000_0000 <= state[place::CONTROL] {
         return false;
     }
-    state[NZCV] % 0x1000_0000 == 0
+    state[place::NZCV] % 0x1000_0000 == 0
 }
