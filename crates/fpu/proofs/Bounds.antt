@@ -14,7 +14,7 @@ use Rattle.machine.specs.Place.{State, before, get, number}
 use Rattle.meaning.specs.Map.{Map, known}
 use Rattle.meaning.specs.Step.{step, nothing}
 use Rattle.meaning.specs.Stop.{Stop, foreign, Report, report, hangs, refused}
-use Rattle.meaning.specs.Tree.{Tree, stop, go, branch, ask, Next, on, last, halt, exitOf, plain, seen, pickSeen, watched}
+use Rattle.meaning.specs.Tree.{Tree, stop, go, branch, ask, Next, on, last, halt, exitOf, plain, seen, watched}
 use Rattle.processing.specs.Operation.{Operation, operationOf, fmac, fnmac, fmsc, fnmsc, fmul, fnmul, fadd, fsub, fdiv, fcpy, fabs, fneg, fsqrt, fcmp, fcmpe, fcmpz, fcmpez, fcvt, fuito, fsito, ftoui, ftouiz, ftosi, ftosiz, undefined}
 use Rattle.processing.specs.Data.{operationTree, dataTree, undefinedTree}
 use Rattle.transfers.specs.Transfer.{transferTree, systemTree, singleTree}
@@ -140,7 +140,7 @@ watched-fine (branch a) st μ h = omega arith
 watched-fine (ask p k) st μ h = by (watched-fine (k (get st p)) st μ (h .1 (get st p))) (known μ p)
   where
     by : Fine (exitOf (watched (k (get st p)) st μ .next)) → (b : Bool)
-        → Fine (exitOf (pickSeen b (watched (k (get st p)) st μ) (seen st μ (halt (hangs (number p)))) .next))
+        → Fine (exitOf (cond b (watched (k (get st p)) st μ) (seen st μ (halt (hangs (number p)))) .next))
     by ih true = ih
     by ih false = h .0
 

@@ -3,13 +3,13 @@
 use Prim.Native.Nat.{ℕ, zero, suc}
 use mathlib.Core.Path.{_≡_, refl, ap, subst}
 use mathlib.Core.List.{List, [], _∷_}
-use mathlib.Core.Bool.{Bool, true, false, _&&_}
+use mathlib.Core.Bool.{Bool, true, false, cond, _&&_}
 use lib.Seq.{set-getD}
 use Rattle.machine.specs.Place.{Place, State, get, put, number}
 use Rattle.meaning.specs.Map.{Map, known, mark}
 use Rattle.meaning.specs.Step.{Step, Act, gets, stored, putAll, step, after, act, allKnown, markAll, stepMarks, afterMarks, actMarks}
 use Rattle.meaning.specs.Stop.{hangs}
-use Rattle.meaning.specs.Tree.{Tree, stop, go, branch, ask, Next, on, last, halt, Seen, seen, pickSeen, watched}
+use Rattle.meaning.specs.Tree.{Tree, stop, go, branch, ask, Next, on, last, halt, Seen, seen, watched}
 use Rattle.meaning.specs.Run.{advance, Watched, followWith, watch}
 use Rattle.meaning.specs.Agree.{Fit, Agree, Alike}
 use Rattle.meaning.proofs.Put.{agree-put, fit-put}
@@ -82,8 +82,8 @@ tree-alike (branch x) μ a b g = record { next = refl; map = refl; good = act-go
 tree-alike (ask p k) μ a b g = by (tree-alike (k (get a p)) μ a b g) (known μ p) refl
   where
     by : AlikeWord (watched (k (get a p)) a μ) (watched (k (get a p)) b μ) → (t : Bool) → known μ p ≡ t
-        → AlikeWord (pickSeen t (watched (k (get a p)) a μ) (seen a μ (halt (hangs (number p)))))
-        (pickSeen t (watched (k (get b p)) b μ) (seen b μ (halt (hangs (number p)))))
+        → AlikeWord (cond t (watched (k (get a p)) a μ) (seen a μ (halt (hangs (number p)))))
+        (cond t (watched (k (get b p)) b μ) (seen b μ (halt (hangs (number p)))))
     by ih true h = subst (λ (v : ℕ). AlikeWord (watched (k (get a p)) a μ) (watched (k v) b μ)) (g .ag p h) ih
     by ih false h = record { next = refl; map = refl; good = g }
 

@@ -7,6 +7,7 @@ use mathlib.Core.Bool.{true, false}
 use mathlib.Core.List.{List}
 use lib.ListN.{length, take, List·getD-eq-default, length-take}
 use borrow.Author.Tests.{lt-ltb, le-ltb, ne-eqb}
+use Rattle.bits.proofs.Truth.{clash}
 use Rattle.machine.specs.declared.Machine.{Machine}
 use Rattle.machine.specs.Machine.{Sized}
 use Rattle.machine.specs.Place.{Place, single, core, word, flags, control, exc, nzcv, place, State, state, get}
@@ -53,9 +54,6 @@ place-nzcv : place 51 ≡ nzcv
 unfolding place
 place-nzcv = refl
 
-clash : false ≡ true → ⊥
-clash e = let n : _≡_ {A = ℕ} 0 1 = cc in omega arith
-
 module _ (μ : Map) (a b : State) (sized : Mapped μ) (ag : Agree μ a b) where
   at : (n : ℕ) (p : Place) → place n ≡ p → known μ p ≡ true → get a p ≡ get b p
   at n p e = subst (λ (q : Place). known μ q ≡ true → get a q ≡ get b q) e (ag n)
@@ -66,12 +64,12 @@ module _ (μ : Map) (a b : State) (sized : Mapped μ) (ag : Agree μ a b) where
     where
       by : Dec (n < 32) → get a (single n) ≡ get b (single n)
       by (yes l) = at n (single n) (place-single n l) h
-      by (no l) = absurd (clash (sym (List·getD-eq-default (μ .marks .s) false (omega (arith, sized .s))) ∙ h))
+      by (no l) = absurd (clash (sym h ∙ List·getD-eq-default (μ .marks .s) false (omega (arith, sized .s))))
   by-place (core n) h = by (decLt n 16)
     where
       by : Dec (n < 16) → get a (core n) ≡ get b (core n)
       by (yes l) = at (32 + n) (core n) (place-core n l) h
-      by (no l) = absurd (clash (sym (List·getD-eq-default (μ .marks .r) false (omega (arith, sized .r))) ∙ h))
+      by (no l) = absurd (clash (sym h ∙ List·getD-eq-default (μ .marks .r) false (omega (arith, sized .r))))
   by-place (word n) h = at (52 + n) (word n) (place-word n) h
   by-place flags h = at 48 flags place-flags h
   by-place control h = at 49 control place-control h

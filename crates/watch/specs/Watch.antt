@@ -8,20 +8,12 @@ use Rattle.machine.specs.Place.{State, state}
 use Rattle.meaning.specs.Map.{Map, mapOf}
 use Rattle.meaning.specs.Stop.{Report, report, refused}
 use Rattle.meaning.specs.Run as R
-use Rattle.meaning.specs.Hang as H
 use Rattle.run.specs.Word.{meaning}
 use Rattle.run.specs.Run.{stopOf}
 use Rattle.meaning.specs.declared.Known.{Known}
 use Rattle.watch.specs.declared.word.Seen.{Seen}
 use Rattle.watch.specs.declared.Watched.{Watched}
-use Rattle.watch.specs.declared.hang.Hang.{Hang}
-use Rattle.watch.specs.declared.hang.Hang.the-variants.{Clear, At}
 use Rattle.limits.specs.Limit.{watchLimit}
-
--- the code's hang
-abbrev pub hangIs : Hang → H.Hang
-hangIs Clear = H.clear
-hangIs (At p) = H.at p
 
 -- the marks that are no array, as a word leaves them
 abbrev pub knownIn : Seen → Known
