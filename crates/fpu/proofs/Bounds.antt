@@ -192,7 +192,7 @@ run-fits base list st = by (eqb n 0) refl
     n = runLimit (length list) base (length (st .window)) (st .machine .thumb)
 
     y : Bool → Run.Reply
-    y b = Run.pickReply b (Run.reply (R.run (meaning base) list 0 st)) (record { says = report (refused n); count = 0; leaves = st })
+    y b = cond b (Run.reply (R.run (meaning base) list 0 st)) (record { says = report (refused n); count = 0; leaves = st })
 
     by : (b : Bool) → eqb n 0 ≡ b → Fits (y b .says) (y b .count)
     by true e =
@@ -212,7 +212,7 @@ watch-fits base list st μ = by (eqb n 0) refl
     n = limitOf base list st μ
 
     y : Bool → Watch.Reply
-    y b = Watch.pickReply b (Watch.reply (R.watch (meaning base) list 0 st μ)) (record { says = report (refused n); count = 0; leaves = st; map = μ })
+    y b = cond b (Watch.reply (R.watch (meaning base) list 0 st μ)) (record { says = report (refused n); count = 0; leaves = st; map = μ })
 
     by : (b : Bool) → eqb n 0 ≡ b → Fits (y b .says) (y b .count)
     by true e =

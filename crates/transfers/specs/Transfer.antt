@@ -12,9 +12,9 @@ use Rattle.transfers.specs.declared.Transfer.{Transfer}
 use Rattle.transfers.specs.declared.Transfer.the-variants.{System, Single, Nothing}
 
 -- what follows a transfer, by whether it branched
-abbrev pub nextOf : Bool → Next
-nextOf true = last
-nextOf false = on
+abbrev pub afterTransfer : Bool → Next
+afterTransfer true = last
+afterTransfer false = on
 
 -- FPSID: a VFPv2 of ARM's
 abbrev pub fpsid : ℕ

@@ -8,7 +8,7 @@ ghost use Prim.Native.Nat.{ℕ};
 ghost use Rattle.machine.specs.Machine.{assembled};
 ghost use Rattle.machine.specs.Place.{state};
 ghost use Rattle.meaning.specs.Tree.{out, plain};
-ghost use Rattle.transfers.specs.Transfer.{nextOf, transferOf, transferTree};
+ghost use Rattle.transfers.specs.Transfer.{afterTransfer, transferOf, transferTree};
 use bits::field::bits;
 use machine::Controls;
 
@@ -32,7 +32,7 @@ pub fn coprocessor_register(
     thumb: bool,
     op: u32,
 ) -> Transferred
-    ensures { λ t. ⌜ ((v : List ℕ) → out (state (assembled (now (s .exit)) (now (r .exit)) (t .controls) thumb) v) (nextOf (t .branched)) ≡ plain (transferTree thumb op) (state (assembled (now (s .entry)) (now (r .entry)) x thumb) v)) ⌝ }
+    ensures { λ t. ⌜ ((v : List ℕ) → out (state (assembled (now (s .exit)) (now (r .exit)) (t .controls) thumb) v) (afterTransfer (t .branched)) ≡ plain (transferTree thumb op) (state (assembled (now (s .entry)) (now (r .entry)) x thumb) v)) ⌝ }
 {
     let transfer = transfer_of(op);
     match transfer {

@@ -5,7 +5,7 @@ use mathlib.Core.Bool.{Bool, true, false, cond}
 use borrow.Author.Tests.{ne-eqb}
 use Rattle.bits.specs.Psr.{holds}
 use Rattle.bits.proofs.Flags.{psr-nzcv}
-use Rattle.machine.specs.Place.{State, nzcv}
+use Rattle.machine.specs.Place.{State, nzcv, number}
 use Rattle.meaning.specs.Map.{Map, known}
 use Rattle.meaning.specs.Step.{nothing, after, afterMarks}
 use Rattle.meaning.specs.Tree.{Tree, stop, go, Next, on, halt, out, plain, Seen, seen, watched}
@@ -37,7 +37,7 @@ module _ (k : ℕ) (t : Tree) (st : State) (μ : Map) where
   always e o h = rw e h
 
   module _ (n : k ≡ 14 → ⊥) where
-    pub flags-unknown : known μ nzcv ≡ false → seen st μ (halt (S.hangs 51)) ≡ watched (conditioned k t) st μ
+    pub flags-unknown : known μ nzcv ≡ false → seen st μ (halt (S.hangs (number nzcv))) ≡ watched (conditioned k t) st μ
     unfolding conditioned watched
     flags-unknown e = rw (ne-eqb _ _ n, e)
 

@@ -1,6 +1,6 @@
 -- What a watched run answers, and what it should.
 use Prim.Native.Nat.{ℕ}
-use mathlib.Core.Bool.{Bool, true, false}
+use mathlib.Core.Bool.{cond}
 use mathlib.Core.List.{List}
 use lib.Dec.{eqb}
 use lib.ListN.{length}
@@ -16,8 +16,8 @@ use Rattle.watch.specs.declared.Watched.{Watched}
 use Rattle.limits.specs.Limit.{watchLimit}
 
 -- the marks that are no array, as a word leaves them
-abbrev pub knownIn : Seen → Known
-knownIn e = record { flags = e .flags; control = e .control; exc = e .exc; nzcv = e .nzcv }
+abbrev pub marksOf : Seen → Known
+marksOf e = record { flags = e .flags; control = e .control; exc = e .exc; nzcv = e .nzcv }
 
 -- a report and a count, with the machine, the window and the map that are left
 pub record Reply : Type 0 where
@@ -35,10 +35,6 @@ answered a window marks =
 abbrev pub reply : R.Watched → Reply
 reply e = record { says = report (e .stop); count = e .count; leaves = e .st; map = e .map }
 
-abbrev pub pickReply : Bool → Reply → Reply → Reply
-pickReply true a b = a
-pickReply false a b = b
-
 -- the first refusal that applies to a watched run, or 0: then it is within the limits
 abbrev pub limitOf : ℕ → List ℕ → State → Map → ℕ
 limitOf base list st μ = watchLimit (length list) base (length (st .window)) (st .machine .thumb) (μ .words)
@@ -47,4 +43,4 @@ limitOf base list st μ = watchLimit (length list) base (length (st .window)) (s
 unfoldable pub watchReply : ℕ → List ℕ → State → Map → Reply
 watchReply base list st μ =
     let n = limitOf base list st μ in
-    pickReply (eqb n 0) (reply (R.watch (meaning base) list 0 st μ)) (record { says = report (refused n); count = 0; leaves = st; map = μ })
+    cond (eqb n 0) (reply (R.watch (meaning base) list 0 st μ)) (record { says = report (refused n); count = 0; leaves = st; map = μ })

@@ -14,7 +14,7 @@ ghost use Rattle.memory.specs.LoadStore.{loadStoreTree};
 ghost use Rattle.transfers.specs.Transfer.{transferTree};
 ghost use Rattle.run.specs.Word.{classTree, meaning};
 ghost use Rattle.run.specs.Run.{nextOf};
-ghost use Rattle.watch.specs.Watch.{knownIn};
+ghost use Rattle.watch.specs.Watch.{marksOf};
 use access_marks::mark_load_store;
 use access_marks::single::mark_single_core;
 use access_marks::system::mark_system;
@@ -62,7 +62,7 @@ pub fn watch_word(
     base: u32,
     op: u32,
 ) -> Seen
-    ensures { λ e. ⌜ seen (state (assembled (now (s .exit)) (now (r .exit)) (e .controls) false) (now (window .exit))) (mapFrom (now (ks .exit)) (now (kr .exit)) (knownIn e) (now («window_marks» .exit))) (nextOf (e .next)) ≡ watched (meaning base op) (state (assembled (now (s .entry)) (now (r .entry)) x false) (now (window .entry))) (mapFrom (now (ks .entry)) (now (kr .entry)) k (now («window_marks» .entry))) ⌝ }
+    ensures { λ e. ⌜ seen (state (assembled (now (s .exit)) (now (r .exit)) (e .controls) false) (now (window .exit))) (mapFrom (now (ks .exit)) (now (kr .exit)) (marksOf e) (now («window_marks» .exit))) (nextOf (e .next)) ≡ watched (meaning base op) (state (assembled (now (s .entry)) (now (r .entry)) x false) (now (window .entry))) (mapFrom (now (ks .entry)) (now (kr .entry)) k (now («window_marks» .entry))) ⌝ }
 {
     if foreign(op) {
         return Seen {
@@ -114,7 +114,7 @@ fn watch_class(
     base: u32,
     op: u32,
 ) -> Seen
-    ensures { λ e. ⌜ seen (state (assembled (now (s .exit)) (now (r .exit)) (e .controls) false) (now (window .exit))) (mapFrom (now (ks .exit)) (now (kr .exit)) (knownIn e) (now («window_marks» .exit))) (nextOf (e .next)) ≡ watched (classTree base op) (state (assembled (now (s .entry)) (now (r .entry)) x false) (now (window .entry))) (mapFrom (now (ks .entry)) (now (kr .entry)) k (now («window_marks» .entry))) ⌝ }
+    ensures { λ e. ⌜ seen (state (assembled (now (s .exit)) (now (r .exit)) (e .controls) false) (now (window .exit))) (mapFrom (now (ks .exit)) (now (kr .exit)) (marksOf e) (now («window_marks» .exit))) (nextOf (e .next)) ≡ watched (classTree base op) (state (assembled (now (s .entry)) (now (r .entry)) x false) (now (window .entry))) (mapFrom (now (ks .entry)) (now (kr .entry)) k (now («window_marks» .entry))) ⌝ }
 {
     if bits(op, 25, 27) == 0b110 {
         let next = watch_access(s, r, window, ks, kr, window_marks, base, op);
@@ -167,7 +167,7 @@ fn watch_transfer(
     k: Known,
     op: u32,
 ) -> Seen
-    ensures { λ e. ⌜ ((v w : List ℕ) → seen (state (assembled (now (s .exit)) (now (r .exit)) (e .controls) false) v) (mapFrom (now (ks .exit)) (now (kr .exit)) (knownIn e) w) (nextOf (e .next)) ≡ watched (transferTree false op) (state (assembled (now (s .entry)) (now (r .entry)) x false) v) (mapFrom (now (ks .entry)) (now (kr .entry)) k w)) ⌝ }
+    ensures { λ e. ⌜ ((v w : List ℕ) → seen (state (assembled (now (s .exit)) (now (r .exit)) (e .controls) false) v) (mapFrom (now (ks .exit)) (now (kr .exit)) (marksOf e) w) (nextOf (e .next)) ≡ watched (transferTree false op) (state (assembled (now (s .entry)) (now (r .entry)) x false) v) (mapFrom (now (ks .entry)) (now (kr .entry)) k w)) ⌝ }
 {
     let transfer = transfer_of(op);
     match transfer {
@@ -224,7 +224,7 @@ fn watch_data(
     k: Known,
     op: u32,
 ) -> Seen
-    ensures { λ e. ⌜ ((v w : List ℕ) → seen (state (assembled (now (s .exit)) (now (r .entry)) (e .controls) false) v) (mapFrom (now (ks .exit)) (now (kr .entry)) (knownIn e) w) (nextOf (e .next)) ≡ watched (dataTree false op) (state (assembled (now (s .entry)) (now (r .entry)) x false) v) (mapFrom (now (ks .entry)) (now (kr .entry)) k w)) ⌝ }
+    ensures { λ e. ⌜ ((v w : List ℕ) → seen (state (assembled (now (s .exit)) (now (r .entry)) (e .controls) false) v) (mapFrom (now (ks .exit)) (now (kr .entry)) (marksOf e) w) (nextOf (e .next)) ≡ watched (dataTree false op) (state (assembled (now (s .entry)) (now (r .entry)) x false) v) (mapFrom (now (ks .entry)) (now (kr .entry)) k w)) ⌝ }
 {
     let hang = hang_data(kr, k, op);
     match hang {
