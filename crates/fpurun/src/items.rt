@@ -67,7 +67,12 @@ fn set_place(
 }
 
 // Marks a place unknown, and says whether there is such a place.
-fn forget(words: usize, marks: &mut [u8; 52], window_marks: &mut [u8; 16384], p: usize) -> bool {
+fn mark_unknown(
+    words: usize,
+    marks: &mut [u8; 52],
+    window_marks: &mut [u8; 16384],
+    p: usize,
+) -> bool {
     if p < 52 {
         marks[p] = 0;
         return true;
@@ -82,7 +87,7 @@ fn forget(words: usize, marks: &mut [u8; 52], window_marks: &mut [u8; 16384], p:
     false
 }
 
-fn forget_all(
+fn mark_all_unknown(
     layout: Layout,
     marks: &mut [u8; 52],
     window_marks: &mut [u8; 16384],
@@ -95,7 +100,7 @@ fn forget_all(
         let next = next_place(line, at);
         match next {
             Next::Place { place, from } => {
-                if !forget(words, marks, window_marks, index(place)) {
+                if !mark_unknown(words, marks, window_marks, index(place)) {
                     return Step::Wrong(Mistake::Beyond(words));
                 }
                 at = from;
@@ -154,7 +159,7 @@ fn take_line(
         Item::Nothing => Step::On(layout),
         Item::Word(x) => add_word(layout, list, x),
         Item::Set { place, value } => set_place(layout, state, window, index(place), value),
-        Item::Unknown(from) => forget_all(layout, marks, window_marks, line, from),
+        Item::Unknown(from) => mark_all_unknown(layout, marks, window_marks, line, from),
         Item::Window { base, count } => set_window(layout, base, index(count)),
         Item::Mistake(e) => Step::Wrong(Mistake::Item(e)),
     }
