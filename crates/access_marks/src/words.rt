@@ -14,8 +14,8 @@ use super::places::mark_word;
 use super::places::single_known;
 use super::places::word_known;
 use bits::field::bit;
+use machine::address::plus;
 use machine::registers::Single;
-use memory::address::plus;
 
 // By bit 20 of the word a load or a store.
 pub fn mark_words(

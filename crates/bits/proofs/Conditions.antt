@@ -6,6 +6,7 @@ use native.Mathlib.Omega.{arith}
 use borrow.Author.Tests.{le-leb}
 use Rattle.bits.specs.declared.psr.Psr.{Psr}
 use Rattle.bits.specs.Psr.{holds}
+use Rattle.bits.proofs.Truth.{clash}
 
 -- a number that is at least n and not n is past n
 pub up : {n k : ℕ} → n ≤ k → (k ≡ n → ⊥) → n + 1 ≤ k
@@ -15,9 +16,6 @@ up h ne = omega arith
 pub always : (k : ℕ) (p : Psr) → 14 ≤ k → true ≡ holds k p
 unfolding holds
 always k p h = rw (le-leb _ _ h)
-
-clash : true ≡ false → ⊥
-clash e = let n : _≡_ {A = ℕ} 0 1 = cc in omega arith
 
 -- LS is the opposite of HI, by the two ways that `||` goes
 pub ls-clear : (c z : Bool) → not c ≡ true → not c ≡ not (c && not z)

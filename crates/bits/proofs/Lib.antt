@@ -2,5 +2,6 @@
 
 pub mod Laws
 pub mod Flags
+pub mod Truth
 mod Shift
 mod Conditions

@@ -14,10 +14,12 @@ use Rattle.machine.specs.Place.{State, before, get, number}
 use Rattle.meaning.specs.Map.{Map, known}
 use Rattle.meaning.specs.Step.{step, nothing}
 use Rattle.meaning.specs.Stop.{Stop, foreign, Report, report, hangs, refused}
-use Rattle.meaning.specs.Tree.{Tree, stop, go, branch, ask, Next, on, last, halt, exitOf, plain, seen, pickSeen, watched}
+use Rattle.meaning.specs.Tree.{Tree, stop, go, branch, ask, Next, on, last, halt, exitOf, plain, seen, watched}
 use Rattle.processing.specs.Operation.{Operation, operationOf, fmac, fnmac, fmsc, fnmsc, fmul, fnmul, fadd, fsub, fdiv, fcpy, fabs, fneg, fsqrt, fcmp, fcmpe, fcmpz, fcmpez, fcvt, fuito, fsito, ftoui, ftouiz, ftosi, ftosiz, undefined}
 use Rattle.processing.specs.Data.{operationTree, dataTree, undefinedTree}
-use Rattle.transfers.specs.Transfer.{transferTree, systemTree, singleTree}
+use Rattle.transfers.specs.declared.Transfer.{Transfer}
+use Rattle.transfers.specs.declared.Transfer.the-variants.{System, Single, Nothing}
+use Rattle.transfers.specs.Transfer.{transferTree, transferOf, transferBy, systemTree, singleTree}
 use Rattle.memory.specs.LoadStore.{accessTree, loadStoreTree}
 use Rattle.limits.specs.Limit.{runLimit}
 use Rattle.run.specs.Word.{foreignWord, classTree, conditioned, meaning}
@@ -97,7 +99,12 @@ near-nothing = refl
 
 near-transfer : (thumb : Bool) (w : ℕ) → Near (transferTree thumb w)
 unfolding transferTree
-near-transfer thumb w = either (eqb (field w 21 23) 7) _ _ (near-system w) (either (eqb (field w 21 23) 0) _ _ (near-single thumb w) near-nothing)
+near-transfer thumb w = by (transferOf w)
+  where
+    by : (t : Transfer) → Near (transferBy t thumb w)
+    by System = near-system w
+    by Single = near-single thumb w
+    by Nothing = near-nothing
 
 near-access : (f : Format) (base w : ℕ) → Near (accessTree f base w)
 unfolding accessTree Near
@@ -140,7 +147,7 @@ watched-fine (branch a) st μ h = omega arith
 watched-fine (ask p k) st μ h = by (watched-fine (k (get st p)) st μ (h .1 (get st p))) (known μ p)
   where
     by : Fine (exitOf (watched (k (get st p)) st μ .next)) → (b : Bool)
-        → Fine (exitOf (pickSeen b (watched (k (get st p)) st μ) (seen st μ (halt (hangs (number p)))) .next))
+        → Fine (exitOf (cond b (watched (k (get st p)) st μ) (seen st μ (halt (hangs (number p)))) .next))
     by ih true = ih
     by ih false = h .0
 
@@ -192,7 +199,7 @@ run-fits base list st = by (eqb n 0) refl
     n = runLimit (length list) base (length (st .window)) (st .machine .thumb)
 
     y : Bool → Run.Reply
-    y b = Run.pickReply b (Run.reply (R.run (meaning base) list 0 st)) (record { says = report (refused n); count = 0; leaves = st })
+    y b = cond b (Run.reply (R.run (meaning base) list 0 st)) (record { says = report (refused n); count = 0; leaves = st })
 
     by : (b : Bool) → eqb n 0 ≡ b → Fits (y b .says) (y b .count)
     by true e =
@@ -212,7 +219,7 @@ watch-fits base list st μ = by (eqb n 0) refl
     n = limitOf base list st μ
 
     y : Bool → Watch.Reply
-    y b = Watch.pickReply b (Watch.reply (R.watch (meaning base) list 0 st μ)) (record { says = report (refused n); count = 0; leaves = st; map = μ })
+    y b = cond b (Watch.reply (R.watch (meaning base) list 0 st μ)) (record { says = report (refused n); count = 0; leaves = st; map = μ })
 
     by : (b : Bool) → eqb n 0 ≡ b → Fits (y b .says) (y b .count)
     by true e =

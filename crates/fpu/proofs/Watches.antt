@@ -1,12 +1,12 @@
 -- From what the watched run promises to what its exported function leaves and promises.
 use Prim.Native.Nat.{ℕ}
-use native.Mathlib.Omega.{arith}
 use mathlib.Core.Path.{_≡_, refl, sym, _∙_}
 use mathlib.Core.Bool.{Bool, true, false, not}
 use mathlib.Core.List.{List}
 use lib.Dec.{eqb}
 use lib.ListN.{length}
 use borrow.Author.Tests.{not-true, not-false}
+use Rattle.bits.proofs.Truth.{clash}
 use Rattle.machine.specs.declared.Machine.{Machine}
 use Rattle.machine.specs.Place.{state}
 use Rattle.meaning.specs.declared.Marks.{Marks}
@@ -23,9 +23,6 @@ use Rattle.layout.proofs.Bytes.{valid-marks-bytes}
 use Rattle.fpu.specs.Outcome.{answerOf, invalidArgument, validCall, decodedState}
 use Rattle.fpu.specs.WatchOutcome.{watchOutcome, reportedWatch, validWatch, decodedMap, WatchPromise}
 use Rattle.fpu.proofs.Calls.{valid-call-state, valid-call-answer}
-
-clash : true ≡ false → ⊥
-clash e = let n : _≡_ {A = ℕ} 0 1 = cc in omega arith
 
 -- a valid watch as facts
 module _ (l m : List ℕ) (thumb n : ℕ) (b : Bool) (u : b ≡ validWatch l m thumb n) (e : not b ≡ false) where

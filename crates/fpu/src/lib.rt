@@ -19,6 +19,7 @@ use layout::state::decode;
 use layout::state::encode;
 use layout::state::is_valid;
 use machine::Machine;
+use machine::place;
 use run::Stop;
 use vfp::Exit;
 
@@ -101,7 +102,7 @@ fn write_answer(
 pub extern "C" fn fpu_new(state: &mut [u32]) -> u32
     ensures { λ r. ⌜ outcome r (now (state .exit)) [] [] ≡ renewed (now (state .entry)) ⌝ }
 {
-    if state.len() != 52 {
+    if state.len() != place::WINDOW {
         return INVALID_ARGUMENT;
     }
     encode(Machine::new(), state);

@@ -8,6 +8,9 @@ use listing::line::item_of;
 use listing::line::next_place;
 use listing::token::before;
 use listing::token::content;
+use machine::place::FLAGS;
+use machine::place::NZCV;
+use machine::place::WINDOW;
 
 // The window's base and count of words, whether one was given, and the count of instruction words.
 pub struct Layout {
@@ -35,10 +38,10 @@ fn index(x: u32) -> usize {
 
 // A place's bits as the state has them: those of places 48 and 51 in position.
 pub fn in_position(p: usize, value: u32) -> u32 {
-    if p == 48 {
+    if p == FLAGS {
         return value % 16 * 0x1000_0000;
     }
-    if p == 51 {
+    if p == NZCV {
         return value % 16 * 0x1000_0000;
     }
     value
@@ -46,17 +49,17 @@ pub fn in_position(p: usize, value: u32) -> u32 {
 
 fn set_place(
     layout: Layout,
-    state: &mut [u32; 52],
+    state: &mut [u32; WINDOW],
     window: &mut [u32; 16384],
     p: usize,
     value: u32,
 ) -> Step {
-    if p < 52 {
+    if p < WINDOW {
         state[p] = in_position(p, value);
         return Step::On(layout);
     }
     let words = layout.words;
-    let i = p - 52;
+    let i = p - WINDOW;
     if i < words {
         if i < 16384 {
             window[i] = value;
@@ -67,12 +70,17 @@ fn set_place(
 }
 
 // Marks a place unknown, and says whether there is such a place.
-fn forget(words: usize, marks: &mut [u8; 52], window_marks: &mut [u8; 16384], p: usize) -> bool {
-    if p < 52 {
+fn mark_unknown(
+    words: usize,
+    marks: &mut [u8; WINDOW],
+    window_marks: &mut [u8; 16384],
+    p: usize,
+) -> bool {
+    if p < WINDOW {
         marks[p] = 0;
         return true;
     }
-    let i = p - 52;
+    let i = p - WINDOW;
     if i < words {
         if i < 16384 {
             window_marks[i] = 0;
@@ -82,9 +90,9 @@ fn forget(words: usize, marks: &mut [u8; 52], window_marks: &mut [u8; 16384], p:
     false
 }
 
-fn forget_all(
+fn mark_all_unknown(
     layout: Layout,
-    marks: &mut [u8; 52],
+    marks: &mut [u8; WINDOW],
     window_marks: &mut [u8; 16384],
     line: &[u8],
     from: usize,
@@ -95,7 +103,7 @@ fn forget_all(
         let next = next_place(line, at);
         match next {
             Next::Place { place, from } => {
-                if !forget(words, marks, window_marks, index(place)) {
+                if !mark_unknown(words, marks, window_marks, index(place)) {
                     return Step::Wrong(Mistake::Beyond(words));
                 }
                 at = from;
@@ -143,8 +151,8 @@ fn add_word(layout: Layout, list: &mut [u32; 4096], word: u32) -> Step {
 fn take_line(
     layout: Layout,
     line: &[u8],
-    state: &mut [u32; 52],
-    marks: &mut [u8; 52],
+    state: &mut [u32; WINDOW],
+    marks: &mut [u8; WINDOW],
     window: &mut [u32; 16384],
     window_marks: &mut [u8; 16384],
     list: &mut [u32; 4096],
@@ -154,7 +162,7 @@ fn take_line(
         Item::Nothing => Step::On(layout),
         Item::Word(x) => add_word(layout, list, x),
         Item::Set { place, value } => set_place(layout, state, window, index(place), value),
-        Item::Unknown(from) => forget_all(layout, marks, window_marks, line, from),
+        Item::Unknown(from) => mark_all_unknown(layout, marks, window_marks, line, from),
         Item::Window { base, count } => set_window(layout, base, index(count)),
         Item::Mistake(e) => Step::Wrong(Mistake::Item(e)),
     }
@@ -163,8 +171,8 @@ fn take_line(
 // The text's lines in turn, up to the first mistake.
 pub fn take(
     text: &[u8],
-    state: &mut [u32; 52],
-    marks: &mut [u8; 52],
+    state: &mut [u32; WINDOW],
+    marks: &mut [u8; WINDOW],
     window: &mut [u32; 16384],
     window_marks: &mut [u8; 16384],
     list: &mut [u32; 4096],

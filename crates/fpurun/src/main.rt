@@ -27,11 +27,12 @@ use items::Layout;
 use items::Taken;
 use libc::STDIN_FILENO;
 use libc::STDOUT_FILENO;
+use machine::place::WINDOW;
 
 // Reads the text, and runs what it says.
 fn run_text(text: &[u8]) {
-    let mut state = [0u32; 52];
-    let mut marks = [1u8; 52];
+    let mut state = [0u32; WINDOW];
+    let mut marks = [1u8; WINDOW];
     let mut window = [0u32; 16384];
     let mut window_marks = [1u8; 16384];
     let mut list = [0u32; 4096];
@@ -53,8 +54,8 @@ fn run_text(text: &[u8]) {
 // Runs the list, and tells what came of it beside what was there before.
 fn run_list(
     layout: Layout,
-    state: [u32; 52],
-    marks: [u8; 52],
+    state: [u32; WINDOW],
+    marks: [u8; WINDOW],
     window: [u32; 16384],
     window_marks: [u8; 16384],
     list: [u32; 4096],

@@ -3,6 +3,10 @@ use super::output::low;
 use super::output::say;
 use libc::STDOUT_FILENO;
 use listing::text::Text;
+use machine::place::FLAGS;
+use machine::place::NZCV;
+use machine::place::PC;
+use machine::place::WINDOW;
 
 fn text(b: &[u8]) {
     io::write_all(STDOUT_FILENO, b);
@@ -36,8 +40,8 @@ fn after_word(t: Text, list: &[u32], count: usize) -> Text {
 }
 
 fn with_r15(t: Text, state: &[u32], marks: &[u8]) -> Text {
-    if marked(marks, 47) {
-        return t.add(b", r15 ").add_hex(word(state, 47));
+    if marked(marks, PC) {
+        return t.add(b", r15 ").add_hex(word(state, PC));
     }
     t.add(b", r15 unknown")
 }
@@ -85,10 +89,10 @@ fn ran(count: usize, all: usize) {
 
 // The mark of a place.
 fn is_known(marks: &[u8], window_marks: &[u8], p: usize) -> bool {
-    if p < 52 {
+    if p < WINDOW {
         return marked(marks, p);
     }
-    marked(window_marks, p - 52)
+    marked(window_marks, p - WINDOW)
 }
 
 fn marked(marks: &[u8], i: usize) -> bool {
@@ -100,16 +104,16 @@ fn marked(marks: &[u8], i: usize) -> bool {
 
 // The bits that a place holds: those of places 48 and 51 stand in bits 31:28 of the state's word.
 fn value(state: &[u32], window: &[u32], p: usize) -> u32 {
-    if p == 48 {
+    if p == FLAGS {
         return word(state, p) / 0x1000_0000;
     }
-    if p == 51 {
+    if p == NZCV {
         return word(state, p) / 0x1000_0000;
     }
-    if p < 52 {
+    if p < WINDOW {
         return word(state, p);
     }
-    word(window, p - 52)
+    word(window, p - WINDOW)
 }
 
 fn word(words: &[u32], i: usize) -> u32 {
@@ -123,7 +127,7 @@ pub fn unknown(marks: &[u8], window_marks: &[u8]) {
     text(b"unknown:");
     let mut none = true;
     let mut p: usize = 0;
-    while p < window_marks.len() + 52 {
+    while p < window_marks.len() + WINDOW {
         if !is_known(marks, window_marks, p) {
             say_next(none, p);
             none = false;
@@ -166,7 +170,7 @@ pub fn changed(
     text(b"changed:");
     let mut none = true;
     let mut p: usize = 0;
-    while p < window.len() + 52 {
+    while p < window.len() + WINDOW {
         let was = is_known(marks, window_marks, p);
         let is = is_known(m, v, p);
         let old = value(state, window, p);

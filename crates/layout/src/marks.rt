@@ -3,8 +3,8 @@ ghost use mathlib.Core.Path.{_≡_};
 ghost use lib.ListN.{length};
 ghost use Rattle.bits.specs.Psr.{oneOf};
 ghost use Rattle.layout.specs.Marks.{encodeMarks, decodeMarks, validMarks};
-use super::place;
 use limits::marks::bits_only;
+use machine::place;
 use meaning::Marks;
 
 // The marks of such bytes.
@@ -13,7 +13,7 @@ pub fn decode_marks(bytes: &[u8]) -> Marks
     ensures { λ k. ⌜ k ≡ decodeMarks (now (bytes .entry)) ⌝ }
 {
     let mut s = [false; 32];
-    for i in 0..place::SINGLES {
+    for i in 0..place::CORE {
         s[i] = bytes[i] == 1;
     }
     let mut r = [false; 16];
@@ -36,7 +36,7 @@ pub fn encode_marks(marks: Marks, bytes: &mut [u8])
     ensures { λ _. ⌜ now (bytes .exit) ≡ encodeMarks marks ⌝ }
 {
     let s = marks.s;
-    for i in 0..place::SINGLES {
+    for i in 0..place::CORE {
         bytes[i] = mark_byte(s[i]);
     }
     let r = marks.r;
@@ -62,7 +62,7 @@ fn mark_byte(known: bool) -> u8
 pub fn is_valid_marks(bytes: &[u8]) -> bool
     ensures { λ r. ⌜ r ≡ validMarks (now (bytes .entry)) ⌝ }
 {
-    if bytes.len() != place::BEFORE_WINDOW {
+    if bytes.len() != place::WINDOW {
         return false;
     }
     bits_only(bytes)

@@ -2,9 +2,9 @@
 ghost use mathlib.Core.Path.{_≡_};
 ghost use lib.ListN.{length};
 ghost use Rattle.layout.specs.State.{encode, decode, valid, Valid};
-use super::place;
 use bits::psr::Psr;
 use machine::Machine;
+use machine::place;
 
 // The machine of a state's words.
 pub fn decode(state: &[u32], thumb: bool) -> Machine
@@ -12,7 +12,7 @@ pub fn decode(state: &[u32], thumb: bool) -> Machine
     ensures { λ m. ⌜ m ≡ decode thumb (now (state .entry)) ⌝ }
 {
     let mut s = [0u32; 32];
-    for i in 0..place::SINGLES {
+    for i in 0..place::CORE {
         s[i] = state[i];
     }
     let mut r = [0u32; 16];
@@ -35,7 +35,7 @@ pub fn encode(machine: Machine, state: &mut [u32])
     ensures { λ _. ⌜ now (state .exit) ≡ encode machine ⌝ }
 {
     let s = machine.s;
-    for i in 0..place::SINGLES {
+    for i in 0..place::CORE {
         state[i] = s[i];
     }
     let r = machine.r;
@@ -54,7 +54,7 @@ pub fn encode(machine: Machine, state: &mut [u32])
 pub fn is_valid(state: &[u32]) -> bool
     ensures { λ r. ⌜ r ≡ valid (now (state .entry)) ⌝ }
 {
-    if state.len() != place::BEFORE_WINDOW {
+    if state.len() != place::WINDOW {
         return false;
     }
     if state[place::FLAGS] % 0x1000_0000 != 0 {

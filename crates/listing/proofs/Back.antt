@@ -11,7 +11,7 @@ use borrow.Author.Tests.{lt-ltb, le-ltb, ltb-true, ltb-false, le-leb, eqb-true, 
 use Rattle.listing.specs.declared.number.Number.the-variants.{Value}
 use Rattle.listing.specs.Number.{digitOf, readFrom, hexOf, decimalOf, digitText, digitsText, stripped, hexText, decimalText}
 use Rattle.listing.specs.Place.{placeOf, placeText, letterOf, same, within, flagsText, controlText, fpexcText, nzcvText}
-use Rattle.listing.proofs.Spelling.{digits-length}
+use Rattle.listing.proofs.Digits.{digits-length}
 use Rattle.listing.proofs.Names.{name-single, name-core, name-flags, name-control, name-fpexc, name-nzcv, name-word}
 
 -- ---- digits

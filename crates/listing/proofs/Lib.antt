@@ -1,7 +1,7 @@
 -- Laws on numbers, texts, words and places, and what is printed read back.
 
 pub mod Reading
-pub mod Spelling
+pub mod Digits
 pub mod Clipping
 pub mod Words
 pub mod Names

@@ -4,7 +4,7 @@ use mathlib.Core.Bool.{Bool, true, false, cond}
 use mathlib.Core.List.{List, [], _∷_}
 use lib.Dec.{eqb, ltb}
 use lib.ListN.{length, take, drop}
-use Rattle.machine.specs.Place.{place}
+use Rattle.machine.specs.Place.{control, number, place}
 use Rattle.listing.specs.declared.number.Number.{Number}
 use Rattle.listing.specs.declared.number.Number.the-variants.{Value, Wrong}
 use Rattle.listing.specs.declared.line.Item.{Item}
@@ -44,7 +44,7 @@ endedOf l i = cond (blank l) i (Mistake expected.End)
 unfoldable pub setTo : ℕ → List ℕ → Item
 setTo p l =
     given (valueOf (firstOf l))
-    (λ v. cond (ltb v (2 ^ width (place p))) (endedOf (restOf l) (Set p v)) (cond (eqb p 49) (Mistake expected.Control) (Mistake expected.Flags)))
+    (λ v. cond (ltb v (2 ^ width (place p))) (endedOf (restOf l) (Set p v)) (cond (eqb p (number control)) (Mistake expected.Control) (Mistake expected.Flags)))
     (Mistake expected.Value)
 
 unfoldable pub setOf : List ℕ → Item

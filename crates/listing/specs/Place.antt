@@ -52,18 +52,18 @@ within Wrong from count = Wrong
 unfoldable pub letterOf : List ℕ → Number
 letterOf [] = Wrong
 letterOf (b ∷ t) =
-    cond (eqb b 115) (within (decimalOf t) 0 32)
-    (cond (eqb b 114) (within (decimalOf t) 32 16)
-    (cond (eqb b 119) (within (decimalOf t) 52 16384) (within (decimalOf (b ∷ t)) 0 16436)))
+    cond (eqb b 115) (within (decimalOf t) 0 (Machine.number (Machine.core 0)))
+    (cond (eqb b 114) (within (decimalOf t) (Machine.number (Machine.core 0)) 16)
+    (cond (eqb b 119) (within (decimalOf t) Machine.before 16384) (within (decimalOf (b ∷ t)) 0 (Machine.before + 16384))))
 
 -- the number of the place that a text names: its name or its number in decimal
 unfoldable pub placeOf : List ℕ → Number
 unfolding same letterOf
 placeOf t =
-    cond (same t flagsText) (Value 48)
-    (cond (same t controlText) (Value 49)
-    (cond (same t fpexcText) (Value 50)
-    (cond (same t nzcvText) (Value 51) (letterOf t))))
+    cond (same t flagsText) (Value (Machine.number Machine.flags))
+    (cond (same t controlText) (Value (Machine.number Machine.control))
+    (cond (same t fpexcText) (Value (Machine.number Machine.exc))
+    (cond (same t nzcvText) (Value (Machine.number Machine.nzcv)) (letterOf t))))
 
 -- how many bits a place has
 abbrev pub width : Machine.Place → ℕ

@@ -7,6 +7,7 @@ use super::number::Number;
 use super::number::decimal_of;
 use super::number::hex_of;
 use super::number::value_of;
+use super::place::CONTROL;
 use super::place::fits;
 use super::place::place_of;
 use super::token::first;
@@ -106,7 +107,7 @@ fn set_to(place: u32, rest: &[u8]) -> Item
     if fits(place, value) {
         return ended(&rest[end..], Item::Set { place, value });
     }
-    if place == 49 {
+    if place == CONTROL {
         return Item::Mistake(Expected::Control);
     }
     Item::Mistake(Expected::Flags)

@@ -1,4 +1,4 @@
-// Numbers as text: a hexadecimal or decimal number is read, and the last digits of a number are spelled.
+// Numbers as text: a hexadecimal or decimal number is read, and the last digits of a number are written.
 ghost use mathlib.Core.Path.{_≡_};
 ghost use Prim.Native.Nat.{_%_, _≤_, _<_};
 ghost use lib.ListN.{length, drop};
@@ -109,7 +109,7 @@ pub fn digit_text(d: u32) -> u8
 }
 
 // Fills a slice with the last digits of a number.
-pub fn spell(x: u32, base: u32, out: &mut [u8])
+pub(crate) fn write_digits(x: u32, base: u32, out: &mut [u8])
     requires { ⌜ (0 < base) × (base ≤ 16) ⌝ }
     ensures { λ _. ⌜ now (out .exit) ≡ digitsText base (length (now (out .entry))) x ⌝ }
 {

@@ -6,22 +6,39 @@ ghost use Rattle.machine.specs.Place.{place as placeAt};
 ghost use Rattle.listing.specs.Place.{placeOf, letterOf, within, width};
 use super::number::Number;
 use super::number::decimal_of;
+use machine::place;
+
+// The numbers of the places, as texts have them.
+pub const CORE: u32 = place::CORE as u32;
+
+pub const FLAGS: u32 = place::FLAGS as u32;
+
+pub const CONTROL: u32 = place::CONTROL as u32;
+
+pub const EXC: u32 = place::EXC as u32;
+
+pub const NZCV: u32 = place::NZCV as u32;
+
+pub const WINDOW: u32 = place::WINDOW as u32;
+
+// The places of a machine with the largest window.
+const PLACES: u32 = WINDOW + 16384;
 
 // The number of the place that a text names.
 pub fn place_of(text: &[u8]) -> Number
     ensures { λ r. ⌜ r ≡ placeOf (now (text .entry)) ⌝ }
 {
     if check::same(text, b"flags") {
-        return Number::Value(48);
+        return Number::Value(FLAGS);
     }
     if check::same(text, b"control") {
-        return Number::Value(49);
+        return Number::Value(CONTROL);
     }
     if check::same(text, b"fpexc") {
-        return Number::Value(50);
+        return Number::Value(EXC);
     }
     if check::same(text, b"nzcv") {
-        return Number::Value(51);
+        return Number::Value(NZCV);
     }
     letter_of(text)
 }
@@ -38,12 +55,12 @@ fn letter_of(text: &[u8]) -> Number
         return placed(decimal_of(&text[1..]), 0, 32);
     }
     if letter == b'r' {
-        return placed(decimal_of(&text[1..]), 32, 16);
+        return placed(decimal_of(&text[1..]), CORE, 16);
     }
     if letter == b'w' {
-        return placed(decimal_of(&text[1..]), 52, 16384);
+        return placed(decimal_of(&text[1..]), WINDOW, 16384);
     }
-    placed(decimal_of(text), 0, 16436)
+    placed(decimal_of(text), 0, PLACES)
 }
 
 // A number below a count, from the first place of its kind on.
@@ -66,13 +83,13 @@ fn placed(n: Number, from: u32, count: u32) -> Number
 pub fn fits(place: u32, value: u32) -> bool
     ensures { λ r. ⌜ r ≡ ltb value (2 ^ width (placeAt place)) ⌝ }
 {
-    if place == 48 {
+    if place == FLAGS {
         return value < 16;
     }
-    if place == 49 {
+    if place == CONTROL {
         return value < 0x1000_0000;
     }
-    if place == 51 {
+    if place == NZCV {
         return value < 16;
     }
     true

@@ -4,8 +4,14 @@ ghost use mathlib.Core.List.{[], _∷_, _++_};
 ghost use Rattle.listing.specs.Number.{hexText, decimalText};
 ghost use Rattle.listing.specs.Place.{placeText};
 ghost use Rattle.listing.specs.Text.{textOf, clip};
-use super::number::spell;
+use super::number::write_digits;
 use super::number::zeros;
+use super::place::CONTROL;
+use super::place::CORE;
+use super::place::EXC;
+use super::place::FLAGS;
+use super::place::NZCV;
+use super::place::WINDOW;
 
 pub struct Text {
     pub bytes: [u8; 128],
@@ -52,7 +58,7 @@ impl Text {
         ensures { λ r. ⌜ textOf r ≡ clip (textOf self ++ hexText x) ⌝ }
     {
         let mut digits = [0u8; 8];
-        spell(x, 16, &mut digits);
+        write_digits(x, 16, &mut digits);
         self.add(&digits)
     }
 
@@ -61,7 +67,7 @@ impl Text {
         ensures { λ r. ⌜ textOf r ≡ clip (textOf self ++ decimalText x) ⌝ }
     {
         let mut digits = [0u8; 10];
-        spell(x, 10, &mut digits);
+        write_digits(x, 10, &mut digits);
         let n = zeros(digits);
         self.add(&digits[n..])
     }
@@ -70,24 +76,24 @@ impl Text {
     pub fn add_place(self, p: u32) -> Text
         ensures { λ r. ⌜ textOf r ≡ clip (textOf self ++ placeText p) ⌝ }
     {
-        if p < 32 {
+        if p < CORE {
             return self.push(b's').add_decimal(p);
         }
-        if p < 48 {
-            return self.push(b'r').add_decimal(p - 32);
+        if p < FLAGS {
+            return self.push(b'r').add_decimal(p - CORE);
         }
-        if p < 49 {
+        if p < CONTROL {
             return self.add(b"flags");
         }
-        if p < 50 {
+        if p < EXC {
             return self.add(b"control");
         }
-        if p < 51 {
+        if p < NZCV {
             return self.add(b"fpexc");
         }
-        if p < 52 {
+        if p < WINDOW {
             return self.add(b"nzcv");
         }
-        self.push(b'w').add_decimal(p - 52)
+        self.push(b'w').add_decimal(p - WINDOW)
     }
 }

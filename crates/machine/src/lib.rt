@@ -1,4 +1,6 @@
 // The machine by value, its registers, and its window of memory.
+pub mod address;
+pub mod place;
 pub mod registers;
 pub mod window;
 

@@ -1,8 +1,8 @@
 // The window: the words of memory from a base on, in place of the Rust's `Bus`. The low two bits of an address are ignored.
 ghost use mathlib.Core.Path.{_≡_};
-ghost use Prim.Native.Nat.{_+_, _-_, _%_, _^_};
 ghost use lib.ListN.{getD, set};
 ghost use Rattle.machine.specs.Window.{wordAt};
+use super::address::minus;
 
 // Outside the window a read gives 0.
 pub fn read32(window: &[u32], base: u32, address: u32) -> u32
@@ -30,13 +30,6 @@ pub fn word_at(base: u32, address: u32) -> usize
     ensures { λ r. ⌜ r ≡ wordAt base address ⌝ }
 {
     index(minus(address, base) / 4)
-}
-
-// a - b, modulo 2^32.
-pub fn minus(a: u32, b: u32) -> u32
-    ensures { λ r. ⌜ r ≡ (a + (2 ^ 32 - b)) % 2 ^ 32 ⌝ }
-{
-    ((a as u64 + (0x1_0000_0000 - b as u64)) % 0x1_0000_0000) as u32
 }
 
 fn index(x: u32) -> usize

@@ -3,15 +3,15 @@ use Prim.Native.Nat.{ℕ, suc, _+_, _≤_, _<_}
 use native.Mathlib.Numerals.{add-one}
 use mathlib.Core.Path.{_≡_, refl, ap, _∙_}
 use mathlib.Core.List.{List, [], _∷_}
-use mathlib.Core.Bool.{Bool, true, false}
+use mathlib.Core.Bool.{Bool, true, false, cond}
 use lib.ListN.{length, getD, drop, drop-of-length-le}
 use lib.Seq.{set-getD, drop-cons}
 use Rattle.machine.specs.Place.{Place, core, State, get, number}
 use Rattle.meaning.specs.Map.{Map, known}
 use Rattle.meaning.specs.Step.{Step, Act, step, after, act, stepMarks, afterMarks, grow, once, nothing}
 use Rattle.meaning.specs.Stop.{Stop, finished, branched, hangs}
-use Rattle.meaning.specs.Tree.{Tree, stop, go, branch, ask, on, last, halt, Out, out, plain, Seen, seen, pickSeen, watched}
-use Rattle.meaning.specs.Hang.{Hang, clear, at, pickHang, hangOf, marked}
+use Rattle.meaning.specs.Tree.{Tree, stop, go, branch, ask, on, last, halt, Out, out, plain, Seen, seen, watched}
+use Rattle.meaning.specs.Hang.{Hang, clear, at, hangOf, marked}
 use Rattle.meaning.specs.Run.{advance, ended, follow, run, endedWith, followWith, watch}
 
 -- ---- a family of steps, one more
@@ -86,8 +86,8 @@ split (branch a) st μ = refl
 split (ask p k) st μ = by (split (k (get st p)) st μ) (known μ p)
   where
     by : Split (hangOf (k (get st p)) st μ) (watched (k (get st p)) st μ) (k (get st p)) st μ → (b : Bool)
-        → Split (pickHang b (hangOf (k (get st p)) st μ) (at (number p)))
-        (pickSeen b (watched (k (get st p)) st μ) (seen st μ (halt (hangs (number p))))) (ask p k) st μ
+        → Split (cond b (hangOf (k (get st p)) st μ) (at (number p)))
+        (cond b (watched (k (get st p)) st μ) (seen st μ (halt (hangs (number p))))) (ask p k) st μ
     by ih true = under (hangOf (k (get st p)) st μ) ih
       where
         under : (h : Hang) → Split h (watched (k (get st p)) st μ) (k (get st p)) st μ → Split h (watched (k (get st p)) st μ) (ask p k) st μ

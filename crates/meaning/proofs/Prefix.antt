@@ -3,13 +3,13 @@ use Prim.Native.Nat.{ℕ, suc, _+_, _≤_}
 use native.Mathlib.Omega.{arith}
 use mathlib.Core.Path.{_≡_, refl, sym}
 use mathlib.Core.List.{List, [], _∷_}
-use mathlib.Core.Bool.{Bool, true, false}
+use mathlib.Core.Bool.{Bool, true, false, cond}
 use lib.ListN.{length, take}
 use Rattle.machine.specs.Place.{State, get, number}
 use Rattle.meaning.specs.Map.{Map, known}
 use Rattle.meaning.specs.Step.{step}
 use Rattle.meaning.specs.Stop.{hangs}
-use Rattle.meaning.specs.Tree.{Tree, stop, go, branch, ask, Next, on, last, halt, Out, plain, Seen, seen, pickSeen, watched}
+use Rattle.meaning.specs.Tree.{Tree, stop, go, branch, ask, Next, on, last, halt, Out, plain, Seen, seen, watched}
 use Rattle.meaning.specs.Run.{advance, follow, run, Watched, followWith, watch}
 
 -- a watched word beside the plain one: a counted word leaves what the plain one leaves, and any other leaves all as it was
@@ -29,7 +29,7 @@ tree-plain (branch x) μ a = (refl, refl)
 tree-plain (ask p k) μ a = by (tree-plain (k (get a p)) μ a) (known μ p)
   where
     by : BesideWord (watched (k (get a p)) a μ) (plain (k (get a p)) a) a → (t : Bool)
-        → BesideWord (pickSeen t (watched (k (get a p)) a μ) (seen a μ (halt (hangs (number p))))) (plain (k (get a p)) a) a
+        → BesideWord (cond t (watched (k (get a p)) a μ) (seen a μ (halt (hangs (number p))))) (plain (k (get a p)) a) a
     by ih true = ih
     by ih false = refl
 

@@ -10,7 +10,7 @@ use Rattle.bits.specs.Psr.{oneOf, nzcvOf, psrOf}
 use Rattle.bits.proofs.Laws.{high-part, low-part}
 use Rattle.machine.specs.Place.{Place, single, core, word, flags, control, exc, nzcv, State, get, put}
 use Rattle.meaning.specs.Map.{Map, known, mark}
-use Rattle.meaning.specs.Agree.{Fit, Agree}
+use Rattle.meaning.specs.Agree.{Fit, AgreeInPlaces}
 
 -- a cell of two lists and of the marks' list
 module _ {M : Type 0} (κ : M → Bool) (d : M) where
@@ -36,7 +36,7 @@ high-of v w = high-part v 28 (w % 2 ^ 28) (omega arith)
 low-of : (v w : ℕ) → (v * 2 ^ 28 + w % 2 ^ 28) % 2 ^ 28 ≡ w % 2 ^ 28
 low-of v w = low-part v 28 (w % 2 ^ 28) (omega arith)
 
-pub agree-put : (μ : Map) (a b : State) → Fit μ a → Fit μ b → Agree μ a b → (p : Place) (t : Bool) (v v′ : ℕ) → (t ≡ true → v ≡ v′)
+pub agree-put : (μ : Map) (a b : State) → Fit μ a → Fit μ b → AgreeInPlaces μ a b → (p : Place) (t : Bool) (v v′ : ℕ) → (t ≡ true → v ≡ v′)
     → (q : Place) → known (mark μ p t) q ≡ true → get (put a p v) q ≡ get (put b p v′) q
 agree-put μ a b fa fb ag (single i) t v v′ e (single j) h = cell (λ x. x) false (μ .marks .s) (a .machine .s) (b .machine .s) (fa .s) (fb .s) i j t v v′ e (ag (single j)) h
 agree-put μ a b fa fb ag (single i) t v v′ e (core j) h = ag (core j) h

@@ -3,22 +3,22 @@
 use Prim.Native.Nat.{ℕ, zero, suc}
 use mathlib.Core.Path.{_≡_, refl, ap, subst}
 use mathlib.Core.List.{List, [], _∷_}
-use mathlib.Core.Bool.{Bool, true, false, _&&_}
+use mathlib.Core.Bool.{Bool, true, false, cond, _&&_}
 use lib.Seq.{set-getD}
 use Rattle.machine.specs.Place.{Place, State, get, put, number}
 use Rattle.meaning.specs.Map.{Map, known, mark}
 use Rattle.meaning.specs.Step.{Step, Act, gets, stored, putAll, step, after, act, allKnown, markAll, stepMarks, afterMarks, actMarks}
 use Rattle.meaning.specs.Stop.{hangs}
-use Rattle.meaning.specs.Tree.{Tree, stop, go, branch, ask, Next, on, last, halt, Seen, seen, pickSeen, watched}
+use Rattle.meaning.specs.Tree.{Tree, stop, go, branch, ask, Next, on, last, halt, Seen, seen, watched}
 use Rattle.meaning.specs.Run.{advance, Watched, followWith, watch}
-use Rattle.meaning.specs.Agree.{Fit, Agree, Alike}
+use Rattle.meaning.specs.Agree.{Fit, AgreeInPlaces, Alike}
 use Rattle.meaning.proofs.Put.{agree-put, fit-put}
 
 -- two states that fit a map and agree where it says known
 pub record Good (μ : Map) (a b : State) : Type 0 where
   pub fa : Fit μ a
   pub fb : Fit μ b
-  pub ag : Agree μ a b
+  pub ag : AgreeInPlaces μ a b
 
 and-l : (x y : Bool) → (x && y) ≡ true → x ≡ true
 and-l true y h = refl
@@ -29,7 +29,7 @@ and-r true y h = h
 and-r false true h = refl
 and-r false false h = h
 
-gets-same : (μ : Map) (a b : State) → Agree μ a b → (ps : List Place) → allKnown μ ps ≡ true → gets a ps ≡ gets b ps
+gets-same : (μ : Map) (a b : State) → AgreeInPlaces μ a b → (ps : List Place) → allKnown μ ps ≡ true → gets a ps ≡ gets b ps
 gets-same μ a b ag [] h = refl
 gets-same μ a b ag (p ∷ ps) h =
     let e : get a p ≡ get b p = ag p (and-r (allKnown μ ps) (known μ p) h) in
@@ -37,7 +37,7 @@ gets-same μ a b ag (p ∷ ps) h =
     cc
 
 -- the writes of a step: what is read comes from a₀ and b₀, which agree under ν
-module _ (ν : Map) (a₀ b₀ : State) (ag : Agree ν a₀ b₀) where
+module _ (ν : Map) (a₀ b₀ : State) (ag : AgreeInPlaces ν a₀ b₀) where
   writes-good : (ws : Step) (μ : Map) (a b : State) → Good μ a b → Good (markAll ν ws μ) (putAll a₀ ws a) (putAll b₀ ws b)
   writes-good [] μ a b g = g
   writes-good (w ∷ ws) μ a b g =
@@ -82,8 +82,8 @@ tree-alike (branch x) μ a b g = record { next = refl; map = refl; good = act-go
 tree-alike (ask p k) μ a b g = by (tree-alike (k (get a p)) μ a b g) (known μ p) refl
   where
     by : AlikeWord (watched (k (get a p)) a μ) (watched (k (get a p)) b μ) → (t : Bool) → known μ p ≡ t
-        → AlikeWord (pickSeen t (watched (k (get a p)) a μ) (seen a μ (halt (hangs (number p)))))
-        (pickSeen t (watched (k (get b p)) b μ) (seen b μ (halt (hangs (number p)))))
+        → AlikeWord (cond t (watched (k (get a p)) a μ) (seen a μ (halt (hangs (number p)))))
+        (cond t (watched (k (get b p)) b μ) (seen b μ (halt (hangs (number p)))))
     by ih true h = subst (λ (v : ℕ). AlikeWord (watched (k (get a p)) a μ) (watched (k v) b μ)) (g .ag p h) ih
     by ih false h = record { next = refl; map = refl; good = g }
 

@@ -7,8 +7,8 @@ use Rattle.meaning.specs.Map.{Map, known}
 use Rattle.meaning.specs.Run.{Watched}
 
 -- two states agree in a place when it holds the same bits in both: here in every place that the map calls known
-abbrev pub Agree : Map → State → State → Type 0
-Agree μ a b = (p : Place) → known μ p ≡ true → get a p ≡ get b p
+abbrev pub AgreeInPlaces : Map → State → State → Type 0
+AgreeInPlaces μ a b = (p : Place) → known μ p ≡ true → get a p ≡ get b p
 
 -- as many marks as places
 pub record Fit (μ : Map) (a : State) : Type 0 where
@@ -21,4 +21,4 @@ pub record Alike (x y : Watched) : Type 0 where
   pub count : x .count ≡ y .count
   pub stop : x .stop ≡ y .stop
   pub map : x .map ≡ y .map
-  pub agree : Agree (x .map) (x .st) (y .st)
+  pub agree : AgreeInPlaces (x .map) (x .st) (y .st)

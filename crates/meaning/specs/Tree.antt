@@ -1,6 +1,6 @@
 -- What a word means: it asks for the values of places, one after the other, and then stops or acts.
 use Prim.Native.Nat.{ℕ}
-use mathlib.Core.Bool.{Bool, true, false}
+use mathlib.Core.Bool.{cond}
 use Rattle.machine.specs.Place.{Place, State, get, number}
 use Rattle.meaning.specs.Map.{Map, known}
 use Rattle.meaning.specs.Step.{Act, act, actMarks}
@@ -51,12 +51,8 @@ pub record Seen : Type 0 where
 abbrev pub seen : State → Map → Next → Seen
 seen st μ x = record { st = st; map = μ; next = x }
 
-abbrev pub pickSeen : Bool → Seen → Seen → Seen
-pickSeen true a b = a
-pickSeen false a b = b
-
 unfoldable pub watched : Tree → State → Map → Seen
 watched (stop s) st μ = seen st μ (halt s)
 watched (go a) st μ = seen (act a st) (actMarks a μ) on
 watched (branch a) st μ = seen (act a st) (actMarks a μ) last
-watched (ask p k) st μ = pickSeen (known μ p) (watched (k (get st p)) st μ) (seen st μ (halt (hangs (number p))))
+watched (ask p k) st μ = cond (known μ p) (watched (k (get st p)) st μ) (seen st μ (halt (hangs (number p))))

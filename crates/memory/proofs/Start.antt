@@ -2,10 +2,7 @@
 use mathlib.Core.Path.{_≡_, refl, sym}
 use mathlib.Core.Bool.{Bool, true, false, cond, not, _&&_}
 use Prim.Native.Nat.{ℕ, _+_, _%_, _^_}
-use native.Mathlib.Omega.{arith}
-
-pub clash : true ≡ false → ⊥
-clash e = let n : _≡_ {A = ℕ} 0 1 = cc in omega arith
+use Rattle.bits.proofs.Truth.{clash}
 
 module _ (a k l : ℕ) where
   -- the base itself

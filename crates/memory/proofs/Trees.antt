@@ -12,7 +12,7 @@ use Rattle.machine.specs.Place.{core, State, get}
 use Rattle.meaning.specs.Step.{step, after, nothing}
 use Rattle.meaning.specs.Tree.{go, on, out, plain}
 use Rattle.meaning.proofs.Laws.{plain-ask, plain-once, plain-then}
-use Rattle.memory.proofs.Start.{clash}
+use Rattle.bits.proofs.Truth.{clash}
 use Rattle.memory.specs.LoadStore.{formatOf, pairStep, countOf, startOf, accessAt, writeBack, accessTree, loadStoreTree}
 
 module _ (f : Format) (base w : ℕ) (st : State) where

@@ -11,7 +11,8 @@ ghost use Rattle.meaning.specs.Step.{step};
 ghost use Rattle.memory.specs.LoadStore.{formatOf, offset, oneOnly, several, countOf, startOf, writeBack};
 use bits::field::bit;
 use bits::field::bits;
-use machine::window::minus;
+use machine::address::minus;
+use machine::address::plus;
 
 // P set and W clear: VLDR and VSTR, one register at base + or - offset.
 fn one_only(op: u32) -> bool
@@ -71,11 +72,4 @@ pub fn write_back(r: &mut [u32; 16], op: u32)
         let rn = bits(op, 16, 19) as usize;
         r[rn] = offset_from(op, r[rn]);
     }
-}
-
-// a + b, modulo 2^32.
-pub fn plus(a: u32, b: u32) -> u32
-    ensures { λ r. ⌜ r ≡ (a + b) % 2 ^ 32 ⌝ }
-{
-    ((a as u64 + b as u64) % 0x1_0000_0000) as u32
 }

@@ -11,6 +11,7 @@ use borrow.Author.Tests.{eqb-true, eq-eqb, ne-eqb, le-leb, lt-leb, lt-ltb, le-lt
 use Rattle.bits.specs.Field.{field, bitOf}
 use Rattle.bits.specs.Psr.{holds, psrOf}
 use Rattle.bits.proofs.Flags.{psr-nzcv}
+use Rattle.bits.proofs.Truth.{clash}
 use Rattle.machine.specs.declared.Controls.{Controls}
 use Rattle.machine.specs.Machine.{assembled}
 use Rattle.machine.specs.Place.{State, state, core, nzcv}
@@ -105,9 +106,6 @@ meaning-word base w b p e = rw (← p, e)
 always : (k : ℕ) (p : _) → k ≡ 14 → holds k p ≡ true
 unfolding holds
 always k p e = rw e
-
-clash : true ≡ false → ⊥
-clash e = let n : _≡_ {A = ℕ} 0 1 = cc in omega arith
 
 module _ (k : ℕ) (t : Tree) (st : State) where
   asked : (b : Bool) → holds k (st .machine .cpsr) ≡ b → (o : Out) → o ≡ plain (cond b t (go nothing)) st → (eqb k 14 ≡ true → b ≡ true) → o ≡ plain (conditioned k t) st

@@ -1,6 +1,6 @@
 -- What a run answers, and what it should.
 use Prim.Native.Nat.{ℕ}
-use mathlib.Core.Bool.{Bool, true, false}
+use mathlib.Core.Bool.{cond}
 use mathlib.Core.List.{List}
 use lib.Dec.{eqb}
 use lib.ListN.{length}
@@ -45,12 +45,8 @@ answered a window = record { says = report (stopOf (a .stop)); count = a .count;
 abbrev pub reply : Ended → Reply
 reply e = record { says = report (e .stop); count = e .count; leaves = e .st }
 
-abbrev pub pickReply : Bool → Reply → Reply → Reply
-pickReply true a b = a
-pickReply false a b = b
-
 -- the run of a list: refused outside the limits, with zero words run and everything as it came
 abbrev pub runReply : ℕ → List ℕ → State → Reply
 runReply base list st =
     let n = runLimit (length list) base (length (st .window)) (st .machine .thumb) in
-    pickReply (eqb n 0) (reply (run (meaning base) list 0 st)) (record { says = report (S.refused n); count = 0; leaves = st })
+    cond (eqb n 0) (reply (run (meaning base) list 0 st)) (record { says = report (S.refused n); count = 0; leaves = st })

@@ -16,9 +16,12 @@ use bits::field::bit;
 use bits::field::bits;
 use bits::psr::check_condition;
 use machine::Controls;
+use machine::address::plus;
 use processing::Processed;
+use transfers::Transfer;
 use transfers::single::single_core;
 use transfers::system::system;
+use transfers::transfer_of;
 use vfp::current_pc;
 
 // What is no array after a word, and what follows it.
@@ -111,28 +114,28 @@ pub fn perform(
 fn transfer(s: &mut [u32; 32], r: &mut [u32; 16], x: Controls, op: u32) -> Executed
     ensures { λ e. ⌜ ((v : List ℕ) → out (state (assembled (now (s .exit)) (now (r .exit)) (e .controls) false) v) (nextOf (e .next)) ≡ plain (transferTree false op) (state (assembled (now (s .entry)) (now (r .entry)) x false) v)) ⌝ }
 {
-    let opc1 = bits(op, 21, 23);
-    if opc1 == 7 {
-        return Executed {
+    let transfer = transfer_of(op);
+    match transfer {
+        Transfer::System => Executed {
             controls: system(r, x, op),
             next: Next::On,
-        };
-    }
-    if opc1 == 0 {
-        if single_core(s, r, false, op) {
-            return Executed {
+        },
+        Transfer::Single => {
+            if single_core(s, r, false, op) {
+                return Executed {
+                    controls: x,
+                    next: Next::Last,
+                };
+            }
+            Executed {
                 controls: x,
-                next: Next::Last,
-            };
+                next: Next::On,
+            }
         }
-        return Executed {
+        Transfer::Nothing => Executed {
             controls: x,
             next: Next::On,
-        };
-    }
-    Executed {
-        controls: x,
-        next: Next::On,
+        },
     }
 }
 
@@ -141,5 +144,5 @@ pub fn advance(r: &mut [u32; 16])
     ensures { λ _. ⌜ now (r .exit) ≡ set (now (r .entry)) 15 ((getD (now (r .entry)) 15 0 + 4) % 2 ^ 32) ⌝ }
 {
     let pc = r[15];
-    r[15] = std::num::wrapping_add_u32(pc, 4);
+    r[15] = plus(pc, 4);
 }

@@ -5,6 +5,13 @@ use super::sides::place;
 use super::sides::watched;
 use libc::STDOUT_FILENO;
 use machine::Machine;
+use machine::place::CONTROL;
+use machine::place::CORE;
+use machine::place::EXC;
+use machine::place::FLAGS;
+use machine::place::NZCV;
+use machine::place::PC;
+use machine::place::WINDOW;
 
 // The places that a word asks for, and up to four rules: the targets become known just where all sources are.
 pub struct Rules {
@@ -211,12 +218,12 @@ fn arithmetic(t: Tally, kind: u32, double: bool) -> Tally {
     let word = arithmetic_word(kind, double);
     let first = read(kind, double, 0);
     let second = read(kind, double, 1);
-    let u = case(t, word, 0, one(place(49), first, d(double, 0)));
+    let u = case(t, word, 0, one(place(CONTROL), first, d(double, 0)));
     case(
         u,
         word,
         0x1_0000,
-        two(place(49), first, d(double, 0), second, d(double, 1)),
+        two(place(CONTROL), first, d(double, 0), second, d(double, 1)),
     )
 }
 
@@ -237,25 +244,25 @@ fn extension_word(opc2: u32, top: u32, double: bool) -> u32 {
 fn copies(t: Tally, opc2: u32, top: u32) -> Tally {
     let single = extension_word(opc2, top, false);
     let double = extension_word(opc2, top, true);
-    let a = case(t, single, 0, one(place(49), place(17), place(10)));
+    let a = case(t, single, 0, one(place(CONTROL), place(17), place(10)));
     let b = case(
         a,
         single,
         0x1_0000,
-        two(place(49), place(17), place(10), place(18), place(11)),
+        two(place(CONTROL), place(17), place(10), place(18), place(11)),
     );
     let c = case(
         b,
         double,
         0,
-        two(place(49), low_m(0), low_d(0), high_m(0), high_d(0)),
+        two(place(CONTROL), low_m(0), low_d(0), high_m(0), high_d(0)),
     );
     case(
         c,
         double,
         0x1_0000,
         four(
-            place(49),
+            place(CONTROL),
             low_m(0),
             low_d(0),
             high_m(0),
@@ -270,13 +277,13 @@ fn copies(t: Tally, opc2: u32, top: u32) -> Tally {
 
 fn roots(t: Tally, double: bool) -> Tally {
     let word = extension_word(1, 1, double);
-    let u = case(t, word, 0, one(place(49), m(double, 0), d(double, 0)));
+    let u = case(t, word, 0, one(place(CONTROL), m(double, 0), d(double, 0)));
     case(
         u,
         word,
         0x1_0000,
         two(
-            place(49),
+            place(CONTROL),
             m(double, 0),
             d(double, 0),
             m(double, 1),
@@ -290,13 +297,13 @@ fn compares(t: Tally, double: bool, top: u32) -> Tally {
         t,
         extension_word(4, top, double),
         0,
-        one(0, d(double, 0) | m(double, 0), place(48)),
+        one(0, d(double, 0) | m(double, 0), place(FLAGS)),
     );
     case(
         u,
         extension_word(5, top, double),
         0,
-        one(0, d(double, 0), place(48)),
+        one(0, d(double, 0), place(FLAGS)),
     )
 }
 
@@ -312,14 +319,14 @@ fn widths(t: Tally) -> Tally {
         u,
         extension_word(7, 1, true),
         0,
-        one(0, m(true, 0) | place(49), place(10)),
+        one(0, m(true, 0) | place(CONTROL), place(10)),
     )
 }
 
 // From an integer, to one by the mode, and to one truncating.
 fn integers(t: Tally, double: bool) -> Tally {
     let from = one(0, place(17), d(double, 0));
-    let mode = one(0, m(double, 0) | place(49), place(10));
+    let mode = one(0, m(double, 0) | place(CONTROL), place(10));
     let zero = one(0, m(double, 0), place(10));
     let a = case(t, extension_word(8, 0, double), 0, from);
     let b = case(a, extension_word(8, 1, double), 0, from);
@@ -345,45 +352,55 @@ fn extensions(t: Tally) -> Tally {
 
 // s13, r3, r15 and the system registers.
 fn transfers(t: Tally) -> Tally {
-    let a = case(t, 0xEE16_3A90, 0, one(0, place(13), place(35)));
-    let b = case(a, 0xEE06_3A90, 0, one(0, place(35), place(13)));
-    let c = case(b, 0xEE16_FA90, 0, one(0, place(13), place(47)));
+    let a = case(t, 0xEE16_3A90, 0, one(0, place(13), place(CORE + 3)));
+    let b = case(a, 0xEE06_3A90, 0, one(0, place(CORE + 3), place(13)));
+    let c = case(b, 0xEE16_FA90, 0, one(0, place(13), place(PC)));
     case(c, 0xEE36_3A90, 0, one(0, 0, 0))
 }
 
 fn system_reads(t: Tally) -> Tally {
-    let a = case(t, 0xEEF1_3A10, 0, one(0, place(48) | place(49), place(35)));
-    let b = case(a, 0xEEF1_FA10, 0, one(0, place(48), place(51)));
-    let c = case(b, 0xEEF8_3A10, 0, one(0, place(50), place(35)));
-    let e = case(c, 0xEEF8_FA10, 0, one(0, place(50), place(51)));
-    let f = case(e, 0xEEF0_3A10, 0, one(0, 0, place(35)));
-    case(f, 0xEEF0_FA10, 0, one(0, 0, place(51)))
+    let a = case(
+        t,
+        0xEEF1_3A10,
+        0,
+        one(0, place(FLAGS) | place(CONTROL), place(CORE + 3)),
+    );
+    let b = case(a, 0xEEF1_FA10, 0, one(0, place(FLAGS), place(NZCV)));
+    let c = case(b, 0xEEF8_3A10, 0, one(0, place(EXC), place(CORE + 3)));
+    let e = case(c, 0xEEF8_FA10, 0, one(0, place(EXC), place(NZCV)));
+    let f = case(e, 0xEEF0_3A10, 0, one(0, 0, place(CORE + 3)));
+    case(f, 0xEEF0_FA10, 0, one(0, 0, place(NZCV)))
 }
 
 fn system_writes(t: Tally) -> Tally {
-    let a = case(t, 0xEEE1_3A10, 0, one(0, place(35), place(48) | place(49)));
-    let b = case(a, 0xEEE8_3A10, 0, one(0, place(35), place(50)));
+    let a = case(
+        t,
+        0xEEE1_3A10,
+        0,
+        one(0, place(CORE + 3), place(FLAGS) | place(CONTROL)),
+    );
+    let b = case(a, 0xEEE8_3A10, 0, one(0, place(CORE + 3), place(EXC)));
     case(b, 0xEEE4_3A10, 0, one(0, 0, 0))
 }
 
 // One register from r1 on, inside the window and outside.
 fn accesses(t: Tally) -> Tally {
     let r1 = place(33);
-    let a = case(t, 0xEDD1_6A01, 0, one(r1, place(53), place(13)));
-    let b = case(a, 0xEDC1_6A01, 0, one(r1, place(13), place(53)));
+    let a = case(t, 0xEDD1_6A01, 0, one(r1, place(WINDOW + 1), place(13)));
+    let b = case(a, 0xEDC1_6A01, 0, one(r1, place(13), place(WINDOW + 1)));
     let c = case(b, 0xED51_6A01, 0, one(r1, 0, place(13)));
     let e = case(c, 0xED41_6A01, 0, one(r1, 0, 0));
     let f = case(
         e,
         0xED91_6B01,
         0,
-        two(r1, place(53), place(12), place(54), place(13)),
+        two(r1, place(WINDOW + 1), place(12), place(54), place(13)),
     );
     case(
         f,
         0xED81_6B01,
         0,
-        two(r1, place(12), place(53), place(13), place(54)),
+        two(r1, place(12), place(WINDOW + 1), place(13), place(54)),
     )
 }
 
@@ -394,25 +411,25 @@ fn multiples(t: Tally) -> Tally {
         t,
         0xECB1_6A02,
         0,
-        two(r1, place(52), place(12), place(53), place(13)),
+        two(r1, place(WINDOW), place(12), place(WINDOW + 1), place(13)),
     );
     case(
         a,
         0xECA1_6A02,
         0,
-        two(r1, place(12), place(52), place(13), place(53)),
+        two(r1, place(12), place(WINDOW), place(13), place(WINDOW + 1)),
     )
 }
 
 // s12 and s13 or d6, with r2 and r3; of equal targets the later wins.
 fn pairs(t: Tally) -> Tally {
-    let from = two(0, place(12), place(34), place(13), place(35));
-    let to = two(0, place(34), place(12), place(35), place(13));
+    let from = two(0, place(12), place(34), place(13), place(CORE + 3));
+    let to = two(0, place(34), place(12), place(CORE + 3), place(13));
     let a = case(t, 0xEC53_2A16, 0, from);
     let b = case(a, 0xEC43_2A16, 0, to);
     let c = case(b, 0xEC53_2B16, 0, from);
     let e = case(c, 0xEC43_2B16, 0, to);
-    case(e, 0xEC53_3A16, 0, one(0, place(13), place(35)))
+    case(e, 0xEC53_3A16, 0, one(0, place(13), place(CORE + 3)))
 }
 
 pub fn exactness() -> Tally {

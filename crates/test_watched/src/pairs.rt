@@ -8,6 +8,12 @@ use super::sides::place;
 use super::sides::watched;
 use bits::psr::Psr;
 use machine::Machine;
+use machine::place::CONTROL;
+use machine::place::CORE;
+use machine::place::EXC;
+use machine::place::FLAGS;
+use machine::place::NZCV;
+use machine::place::WINDOW;
 use run::run;
 
 // How many lists, words counted, stops of each kind, and lists that came out otherwise.
@@ -146,7 +152,7 @@ fn singles_by(k: u64, a: [u32; 32], b: [u32; 32]) -> [u32; 32] {
 fn cores_by(k: u64, a: [u32; 16], b: [u32; 16]) -> [u32; 16] {
     let mut r = a;
     for i in 0..16 {
-        r[i] = chosen(k, 32 + i, a[i], b[i]);
+        r[i] = chosen(k, CORE + i, a[i], b[i]);
     }
     r
 }
@@ -154,17 +160,18 @@ fn cores_by(k: u64, a: [u32; 16], b: [u32; 16]) -> [u32; 16] {
 fn words_by(k: u64, a: [u32; 12], b: [u32; 12]) -> [u32; 12] {
     let mut w = a;
     for i in 0..12 {
-        w[i] = chosen(k, 52 + i, a[i], b[i]);
+        w[i] = chosen(k, WINDOW + i, a[i], b[i]);
     }
     w
 }
 
 fn flags_by(k: u64, a: Psr, b: Psr) -> Psr {
-    if at(k, 51) { a } else { b }
+    if at(k, NZCV) { a } else { b }
 }
 
 fn fpscr_by(k: u64, a: u32, b: u32) -> u32 {
-    chosen(k, 48, a & 0xF000_0000, b & 0xF000_0000) | chosen(k, 49, a & 0xFFF_FFFF, b & 0xFFF_FFFF)
+    chosen(k, FLAGS, a & 0xF000_0000, b & 0xF000_0000)
+        | chosen(k, CONTROL, a & 0xFFF_FFFF, b & 0xFFF_FFFF)
 }
 
 fn machine_by(k: u64, m: Machine, n: Machine) -> Machine {
@@ -181,7 +188,7 @@ fn machine_by(k: u64, m: Machine, n: Machine) -> Machine {
         s,
         r,
         fpscr: fpscr_by(k, m.fpscr, n.fpscr),
-        fpexc: chosen(k, 50, m.fpexc, n.fpexc),
+        fpexc: chosen(k, EXC, m.fpexc, n.fpexc),
         cpsr,
         thumb: false,
     }
@@ -205,7 +212,7 @@ fn map(seed: u64) -> u64 {
     if b % 4 == 0 {
         return k;
     }
-    k | place(49) | place(51)
+    k | place(CONTROL) | place(NZCV)
 }
 
 // Mostly under condition 1110.

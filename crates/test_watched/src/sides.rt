@@ -1,6 +1,12 @@
 // A machine with a window of twelve words, and its map as a number of 64 bits: bit p is the mark of place p.
 use bits::psr::Psr;
 use machine::Machine;
+use machine::place::CONTROL;
+use machine::place::CORE;
+use machine::place::EXC;
+use machine::place::FLAGS;
+use machine::place::NZCV;
+use machine::place::WINDOW;
 use meaning::Marks;
 use run::Stop;
 use watch::watch;
@@ -50,7 +56,7 @@ fn singles_of(k: u64) -> [bool; 32] {
 fn cores_of(k: u64) -> [bool; 16] {
     let mut r = [false; 16];
     for i in 0..16 {
-        r[i] = at(k, 32 + i);
+        r[i] = at(k, CORE + i);
     }
     r
 }
@@ -62,7 +68,7 @@ fn byte_of(b: bool) -> u8 {
 fn words_of(k: u64) -> [u8; 12] {
     let mut w = [0; 12];
     for i in 0..12 {
-        w[i] = byte_of(at(k, 52 + i));
+        w[i] = byte_of(at(k, WINDOW + i));
     }
     w
 }
@@ -73,10 +79,10 @@ fn marks_of(k: u64) -> Marks {
     Marks {
         s,
         r,
-        flags: at(k, 48),
-        control: at(k, 49),
-        exc: at(k, 50),
-        nzcv: at(k, 51),
+        flags: at(k, FLAGS),
+        control: at(k, CONTROL),
+        exc: at(k, EXC),
+        nzcv: at(k, NZCV),
     }
 }
 
@@ -91,7 +97,7 @@ fn add_singles(k: u64, s: [bool; 32]) -> u64 {
 fn add_cores(k: u64, r: [bool; 16]) -> u64 {
     let mut x = k;
     for i in 0..16 {
-        x = with(x, 32 + i, r[i]);
+        x = with(x, CORE + i, r[i]);
     }
     x
 }
@@ -99,7 +105,7 @@ fn add_cores(k: u64, r: [bool; 16]) -> u64 {
 fn add_words(k: u64, w: [u8; 12]) -> u64 {
     let mut x = k;
     for i in 0..12 {
-        x = with(x, 52 + i, w[i] == 1);
+        x = with(x, WINDOW + i, w[i] == 1);
     }
     x
 }
@@ -108,8 +114,8 @@ fn map_of(m: Marks, w: [u8; 12]) -> u64 {
     let s = m.s;
     let r = m.r;
     let a = add_words(add_cores(add_singles(0, s), r), w);
-    let b = with(with(a, 48, m.flags), 49, m.control);
-    with(with(b, 50, m.exc), 51, m.nzcv)
+    let b = with(with(a, FLAGS, m.flags), CONTROL, m.control);
+    with(with(b, EXC, m.exc), NZCV, m.nzcv)
 }
 
 fn kind_of(stop: Stop) -> u64 {
@@ -178,26 +184,26 @@ fn flags_of(x: Psr) -> u32 {
 // The bits that a place holds.
 pub fn bits_of(side: Side, p: usize) -> u32 {
     let m = side.machine;
-    if p < 32 {
+    if p < CORE {
         return m.s[p];
     }
-    if p < 48 {
-        return m.r[p - 32];
+    if p < FLAGS {
+        return m.r[p - CORE];
     }
-    if p < 52 {
+    if p < WINDOW {
         return control_of(m, p);
     }
-    side.window[(p - 52) % 12]
+    side.window[(p - WINDOW) % 12]
 }
 
 fn control_of(m: Machine, p: usize) -> u32 {
-    if p == 48 {
+    if p == FLAGS {
         return m.fpscr / 0x1000_0000;
     }
-    if p == 49 {
+    if p == CONTROL {
         return m.fpscr % 0x1000_0000;
     }
-    if p == 50 {
+    if p == EXC {
         return m.fpexc;
     }
     let f = m.cpsr;

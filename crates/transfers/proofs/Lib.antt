@@ -1,3 +1,4 @@
--- Laws of the system registers.
+-- Laws of transfers, which other crates cite, and of the system registers.
 
+pub mod Transfers
 mod SystemRegisters

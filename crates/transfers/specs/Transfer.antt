@@ -8,11 +8,13 @@ use Rattle.machine.specs.Registers.{sregOf}
 use Rattle.machine.specs.Place.{Place, core, flags, control, exc, nzcv, sWord}
 use Rattle.meaning.specs.Step.{Write, Step, fst, snd, copy, constant, once, nothing}
 use Rattle.meaning.specs.Tree.{Tree, Next, on, last, go, branch}
+use Rattle.transfers.specs.declared.Transfer.{Transfer}
+use Rattle.transfers.specs.declared.Transfer.the-variants.{System, Single, Nothing}
 
 -- what follows a transfer, by whether it branched
-abbrev pub nextOf : Bool → Next
-nextOf true = last
-nextOf false = on
+abbrev pub afterTransfer : Bool → Next
+afterTransfer true = last
+afterTransfer false = on
 
 -- FPSID: a VFPv2 of ARM's
 abbrev pub fpsid : ℕ
@@ -63,8 +65,15 @@ singleTree thumb w =
     (go (once (copy (core t) (sWord n) ∷ []))))
     (go (once (copy (sWord n) (core t) ∷ [])))
 
--- other opc1 values do nothing
+-- which transfer a word is, by opc1, bits 23:21: other values do nothing
+unfoldable pub transferOf : ℕ → Transfer
+transferOf w = let opc1 = field w 21 23 in cond (eqb opc1 7) System (cond (eqb opc1 0) Single Nothing)
+
+abbrev pub transferBy : Transfer → Bool → ℕ → Tree
+transferBy System thumb w = systemTree w
+transferBy Single thumb w = singleTree thumb w
+transferBy Nothing thumb w = go nothing
+
 unfoldable pub transferTree : Bool → ℕ → Tree
-transferTree thumb w =
-    let opc1 = field w 21 23 in
-    cond (eqb opc1 7) (systemTree w) (cond (eqb opc1 0) (singleTree thumb w) (go nothing))
+unfolding transferOf
+transferTree thumb w = transferBy (transferOf w) thumb w

@@ -8,9 +8,16 @@ ghost use Prim.Native.Nat.{ℕ};
 ghost use Rattle.machine.specs.Machine.{assembled};
 ghost use Rattle.machine.specs.Place.{state};
 ghost use Rattle.meaning.specs.Tree.{out, plain};
-ghost use Rattle.transfers.specs.Transfer.{nextOf, transferTree};
+ghost use Rattle.transfers.specs.Transfer.{afterTransfer, transferOf, transferTree};
 use bits::field::bits;
 use machine::Controls;
+
+// Which transfer a word is: of a system register, of a single, or none, which does nothing.
+pub enum Transfer {
+    System,
+    Single,
+    Nothing,
+}
 
 // What a transfer hands back beside the lent registers, and whether it branched.
 pub struct Transferred {
@@ -25,23 +32,35 @@ pub fn coprocessor_register(
     thumb: bool,
     op: u32,
 ) -> Transferred
-    ensures { λ t. ⌜ ((v : List ℕ) → out (state (assembled (now (s .exit)) (now (r .exit)) (t .controls) thumb) v) (nextOf (t .branched)) ≡ plain (transferTree thumb op) (state (assembled (now (s .entry)) (now (r .entry)) x thumb) v)) ⌝ }
+    ensures { λ t. ⌜ ((v : List ℕ) → out (state (assembled (now (s .exit)) (now (r .exit)) (t .controls) thumb) v) (afterTransfer (t .branched)) ≡ plain (transferTree thumb op) (state (assembled (now (s .entry)) (now (r .entry)) x thumb) v)) ⌝ }
+{
+    let transfer = transfer_of(op);
+    match transfer {
+        Transfer::System => Transferred {
+            controls: system::system(r, x, op),
+            branched: false,
+        },
+        Transfer::Single => Transferred {
+            controls: x,
+            branched: single::single_core(s, r, thumb, op),
+        },
+        Transfer::Nothing => Transferred {
+            controls: x,
+            branched: false,
+        },
+    }
+}
+
+// By opc1, bits 23:21.
+pub fn transfer_of(op: u32) -> Transfer
+    ensures { λ t. ⌜ t ≡ transferOf op ⌝ }
 {
     let opc1 = bits(op, 21, 23);
     if opc1 == 7 {
-        return Transferred {
-            controls: system::system(r, x, op),
-            branched: false,
-        };
+        return Transfer::System;
     }
     if opc1 == 0 {
-        return Transferred {
-            controls: x,
-            branched: single::single_core(s, r, thumb, op),
-        };
+        return Transfer::Single;
     }
-    Transferred {
-        controls: x,
-        branched: false,
-    }
+    Transfer::Nothing
 }

@@ -7,7 +7,7 @@ ghost use Rattle.machine.specs.declared.Controls.{Controls};
 ghost use Rattle.machine.specs.Machine.{assembled};
 ghost use Rattle.machine.specs.Place.{state};
 ghost use Rattle.meaning.specs.Tree.{out, plain};
-ghost use Rattle.transfers.specs.Transfer.{nextOf, target, singleTree};
+ghost use Rattle.transfers.specs.Transfer.{afterTransfer, target, singleTree};
 use bits::field::bit;
 use bits::field::bits;
 use machine::registers::get_single;
@@ -16,7 +16,7 @@ use machine::registers::sreg;
 
 // Whether it branched: r15 is written through `branch`.
 pub fn single_core(s: &mut [u32; 32], r: &mut [u32; 16], thumb: bool, op: u32) -> bool
-    ensures { λ b. ⌜ ((x : Controls) (v : List ℕ) → out (state (assembled (now (s .exit)) (now (r .exit)) x thumb) v) (nextOf b) ≡ plain (singleTree thumb op) (state (assembled (now (s .entry)) (now (r .entry)) x thumb) v)) ⌝ }
+    ensures { λ b. ⌜ ((x : Controls) (v : List ℕ) → out (state (assembled (now (s .exit)) (now (r .exit)) x thumb) v) (afterTransfer b) ≡ plain (singleTree thumb op) (state (assembled (now (s .entry)) (now (r .entry)) x thumb) v)) ⌝ }
 {
     let rt = bits(op, 12, 15) as usize;
     let sn = sreg(bits(op, 16, 19), bits(op, 7, 7));

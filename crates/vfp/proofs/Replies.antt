@@ -14,7 +14,7 @@ use Rattle.meaning.proofs.Laws.{plain-stop, plain-ask}
 use Rattle.processing.specs.declared.Processed.{Processed}
 use Rattle.processing.specs.declared.Processed.the-variants.{Done, Undefined}
 use Rattle.processing.specs.Data.{behind, dataTree, treeOf, undefinedTree, Handled}
-use Rattle.transfers.specs.Transfer.{nextOf}
+use Rattle.transfers.specs.Transfer.{afterTransfer}
 use Rattle.memory.specs.LoadStore.{loadStoreTree}
 use Rattle.limits.specs.Limit.{windowLimit}
 use Rattle.vfp.specs.Call.{reply, loadStoreReply}
@@ -36,8 +36,8 @@ module _ (m : Machine) (w : ℕ) (s′ : List ℕ) (r : Processed) (h : Handled 
       (replied _ (undefinedTree (m .thumb) w) (state m v) (plain-ask (core 15) _ (state m v) _ (plain-stop _ (state m v))))
 
 -- a transfer, by whether it branched
-pub transferred : (b : Bool) (t : Tree) (st x : State) → out x (nextOf b) ≡ plain t st → record { says = report (exitOf (nextOf b)); leaves = x } ≡ reply t st
-transferred b t st x e = replied (out x (nextOf b)) t st e
+pub transferred : (b : Bool) (t : Tree) (st x : State) → out x (afterTransfer b) ≡ plain t st → record { says = report (exitOf (afterTransfer b)); leaves = x } ≡ reply t st
+transferred b t st x e = replied (out x (afterTransfer b)) t st e
 
 -- loads and stores, within the limits and outside
 module _ (base w : ℕ) (st : State) (n : ℕ) (l : n ≡ windowLimit base (length (st .window))) where

@@ -1,6 +1,6 @@
 -- What a call answers, and what it should.
 use Prim.Native.Nat.{ℕ}
-use mathlib.Core.Bool.{Bool, true, false, cond}
+use mathlib.Core.Bool.{cond}
 use mathlib.Core.List.{List}
 use lib.Dec.{eqb}
 use lib.ListN.{length}
@@ -34,11 +34,7 @@ abbrev pub reply : Tree → State → Reply
 reply t st = let o = plain t st in record { says = report (exitOf (o .next)); leaves = o .st }
 
 -- loads and stores: refused outside the limits, with everything as it came
-abbrev pub pickReply : Bool → Reply → Reply → Reply
-pickReply true a b = a
-pickReply false a b = b
-
 abbrev pub loadStoreReply : ℕ → ℕ → State → Reply
 loadStoreReply base w st =
     let n = windowLimit base (length (st .window)) in
-    pickReply (eqb n 0) (reply (loadStoreTree base w) st) (record { says = report (refused n); leaves = st })
+    cond (eqb n 0) (reply (loadStoreTree base w) st) (record { says = report (refused n); leaves = st })

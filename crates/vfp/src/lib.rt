@@ -56,9 +56,9 @@ pub fn current_pc(r15: u32, thumb: bool) -> u32
     ensures { λ a. ⌜ a ≡ (r15 + (2 ^ 32 - behind thumb)) % 2 ^ 32 ⌝ }
 {
     if thumb {
-        return machine::window::minus(r15, 4);
+        return machine::address::minus(r15, 4);
     }
-    machine::window::minus(r15, 8)
+    machine::address::minus(r15, 8)
 }
 
 // Transfers between singles, system registers and core registers (MCR and MRC).

@@ -7,9 +7,10 @@ use mathlib.Core.Bool.{true, false}
 use mathlib.Core.List.{List}
 use lib.ListN.{length, take, List·getD-eq-default, length-take}
 use borrow.Author.Tests.{lt-ltb, le-ltb, ne-eqb}
+use Rattle.bits.proofs.Truth.{clash}
 use Rattle.machine.specs.declared.Machine.{Machine}
 use Rattle.machine.specs.Machine.{Sized}
-use Rattle.machine.specs.Place.{Place, single, core, word, flags, control, exc, nzcv, place, State, state, get}
+use Rattle.machine.specs.Place.{Place, single, core, word, flags, control, exc, nzcv, before, number, place, State, state, get}
 use Rattle.meaning.specs.Map.{Map, known}
 use Rattle.meaning.specs.Stop.{report, refused}
 use Rattle.meaning.proofs.TwoRuns.{two-runs}
@@ -31,52 +32,49 @@ place-core : (n : ℕ) → n < 16 → place (32 + n) ≡ core n
 unfolding place
 place-core n h = let e : 32 + n - 32 ≡ n = omega arith in rw (le-ltb (32 + n) 32 (omega arith), lt-ltb (32 + n) 48 (omega arith), e)
 
-place-word : (n : ℕ) → place (52 + n) ≡ word n
+place-word : (n : ℕ) → place (before + n) ≡ word n
 unfolding place
 place-word n =
-    let e : 52 + n - 52 ≡ n = omega arith in
-    rw (le-ltb (52 + n) 32 (omega arith), le-ltb (52 + n) 48 (omega arith), le-ltb (52 + n) 49 (omega arith), le-ltb (52 + n) 50 (omega arith), le-ltb (52 + n) 51 (omega arith), le-ltb (52 + n) 52 (omega arith), e)
+    let e : before + n - before ≡ n = omega arith in
+    rw (le-ltb (before + n) 32 (omega arith), le-ltb (before + n) 48 (omega arith), le-ltb (before + n) 49 (omega arith), le-ltb (before + n) 50 (omega arith), le-ltb (before + n) 51 (omega arith), le-ltb (before + n) before (omega arith), e)
 
-place-flags : place 48 ≡ flags
+place-flags : place (number flags) ≡ flags
 unfolding place
 place-flags = refl
 
-place-control : place 49 ≡ control
+place-control : place (number control) ≡ control
 unfolding place
 place-control = refl
 
-place-exc : place 50 ≡ exc
+place-exc : place (number exc) ≡ exc
 unfolding place
 place-exc = refl
 
-place-nzcv : place 51 ≡ nzcv
+place-nzcv : place (number nzcv) ≡ nzcv
 unfolding place
 place-nzcv = refl
-
-clash : false ≡ true → ⊥
-clash e = let n : _≡_ {A = ℕ} 0 1 = cc in omega arith
 
 module _ (μ : Map) (a b : State) (sized : Mapped μ) (ag : Agree μ a b) where
   at : (n : ℕ) (p : Place) → place n ≡ p → known μ p ≡ true → get a p ≡ get b p
   at n p e = subst (λ (q : Place). known μ q ≡ true → get a q ≡ get b q) e (ag n)
 
   -- agreement in the places by number is agreement in all: past the registers nothing is marked known
-  by-place : A.Agree μ a b
+  by-place : A.AgreeInPlaces μ a b
   by-place (single n) h = by (decLt n 32)
     where
       by : Dec (n < 32) → get a (single n) ≡ get b (single n)
       by (yes l) = at n (single n) (place-single n l) h
-      by (no l) = absurd (clash (sym (List·getD-eq-default (μ .marks .s) false (omega (arith, sized .s))) ∙ h))
+      by (no l) = absurd (clash (sym h ∙ List·getD-eq-default (μ .marks .s) false (omega (arith, sized .s))))
   by-place (core n) h = by (decLt n 16)
     where
       by : Dec (n < 16) → get a (core n) ≡ get b (core n)
       by (yes l) = at (32 + n) (core n) (place-core n l) h
-      by (no l) = absurd (clash (sym (List·getD-eq-default (μ .marks .r) false (omega (arith, sized .r))) ∙ h))
-  by-place (word n) h = at (52 + n) (word n) (place-word n) h
-  by-place flags h = at 48 flags place-flags h
-  by-place control h = at 49 control place-control h
-  by-place exc h = at 50 exc place-exc h
-  by-place nzcv h = at 51 nzcv place-nzcv h
+      by (no l) = absurd (clash (sym h ∙ List·getD-eq-default (μ .marks .r) false (omega (arith, sized .r))))
+  by-place (word n) h = at (before + n) (word n) (place-word n) h
+  by-place flags h = at (number flags) flags place-flags h
+  by-place control h = at (number control) control place-control h
+  by-place exc h = at (number exc) exc place-exc h
+  by-place nzcv h = at (number nzcv) nzcv place-nzcv h
 
 -- ---- within the limits the answer is the watched run's
 

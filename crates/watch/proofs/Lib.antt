@@ -1,6 +1,5 @@
 -- Laws of the crate's proofs, and demand 3.
 
-mod Hangs
 mod Worded
 mod Replies
 pub mod Demanded

@@ -13,6 +13,7 @@ use Rattle.meaning.specs.Map.{Map, mapOf, mapFrom, knownOf}
 use Rattle.meaning.specs.Tree.{Tree}
 use Rattle.run.specs.declared.Stop.{Stop}
 use Rattle.run.specs.Run.{stopOf}
+use Rattle.run.proofs.Replies.{whole}
 use Rattle.watch.specs.declared.Watched.{Watched}
 use Rattle.watch.specs.Watch.{answered, reply}
 use Rattle.meaning.specs.Run as R
@@ -22,9 +23,6 @@ pub answered-as : (a : Watched) (stop : Stop) (count : ℕ) (m : Machine) (k : M
     → (a .stop ≡ stop) × (a .count ≡ count) × (a .machine ≡ m) × (a .marks ≡ k)
     → R.endedWith (state m v) (mapOf k w) count (stopOf stop) ≡ e → answered a v w ≡ reply e
 answered-as a stop count m k v w e p q = rw (p .0, p .1, p .2, p .3) (ap reply q)
-
-whole : (m : Machine) → m .thumb ≡ false → assembled (m .s) (m .r) (controlsOf m) false ≡ m
-whole m e = rw (← e)
 
 -- the run begins with the machine and the marks in their parts
 pub begun : (M : ℕ → Tree) (list : List ℕ) (m : Machine) (k : Marks) (v w s r : List ℕ) (x : Controls) (y : Known)

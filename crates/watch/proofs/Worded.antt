@@ -5,10 +5,10 @@ use mathlib.Core.Bool.{Bool, true, false, cond}
 use borrow.Author.Tests.{ne-eqb}
 use Rattle.bits.specs.Psr.{holds}
 use Rattle.bits.proofs.Flags.{psr-nzcv}
-use Rattle.machine.specs.Place.{State, nzcv}
+use Rattle.machine.specs.Place.{State, nzcv, number}
 use Rattle.meaning.specs.Map.{Map, known}
 use Rattle.meaning.specs.Step.{nothing, after, afterMarks}
-use Rattle.meaning.specs.Tree.{Tree, stop, go, Next, on, halt, out, plain, Seen, seen, pickSeen, watched}
+use Rattle.meaning.specs.Tree.{Tree, stop, go, Next, on, halt, out, plain, Seen, seen, watched}
 use Rattle.meaning.specs.Hang.{clear, at, hangOf, marked}
 use Rattle.meaning.proofs.Laws.{split-clear, split-at}
 use Rattle.run.specs.Word.{conditioned}
@@ -28,7 +28,7 @@ not-hanging t st x μ y n h e m = sym (split-clear t st μ (sym h) ∙ rw (← e
 
 -- ---- the condition
 
-picked : (b : Bool) (x y o : Seen) → b ≡ true → o ≡ x → o ≡ pickSeen b x y
+picked : (b : Bool) (x y o : Seen) → b ≡ true → o ≡ x → o ≡ cond b x y
 picked b x y o e h = rw e h
 
 module _ (k : ℕ) (t : Tree) (st : State) (μ : Map) where
@@ -37,7 +37,7 @@ module _ (k : ℕ) (t : Tree) (st : State) (μ : Map) where
   always e o h = rw e h
 
   module _ (n : k ≡ 14 → ⊥) where
-    pub flags-unknown : known μ nzcv ≡ false → seen st μ (halt (S.hangs 51)) ≡ watched (conditioned k t) st μ
+    pub flags-unknown : known μ nzcv ≡ false → seen st μ (halt (S.hangs (number nzcv))) ≡ watched (conditioned k t) st μ
     unfolding conditioned watched
     flags-unknown e = rw (ne-eqb _ _ n, e)
 

@@ -1,6 +1,6 @@
 -- What a watched run answers, and what it should.
 use Prim.Native.Nat.{ℕ}
-use mathlib.Core.Bool.{Bool, true, false}
+use mathlib.Core.Bool.{cond}
 use mathlib.Core.List.{List}
 use lib.Dec.{eqb}
 use lib.ListN.{length}
@@ -8,24 +8,16 @@ use Rattle.machine.specs.Place.{State, state}
 use Rattle.meaning.specs.Map.{Map, mapOf}
 use Rattle.meaning.specs.Stop.{Report, report, refused}
 use Rattle.meaning.specs.Run as R
-use Rattle.meaning.specs.Hang as H
 use Rattle.run.specs.Word.{meaning}
 use Rattle.run.specs.Run.{stopOf}
 use Rattle.meaning.specs.declared.Known.{Known}
 use Rattle.watch.specs.declared.word.Seen.{Seen}
 use Rattle.watch.specs.declared.Watched.{Watched}
-use Rattle.watch.specs.declared.hang.Hang.{Hang}
-use Rattle.watch.specs.declared.hang.Hang.the-variants.{Clear, At}
 use Rattle.limits.specs.Limit.{watchLimit}
 
--- the code's hang
-abbrev pub hangIs : Hang → H.Hang
-hangIs Clear = H.clear
-hangIs (At p) = H.at p
-
 -- the marks that are no array, as a word leaves them
-abbrev pub knownIn : Seen → Known
-knownIn e = record { flags = e .flags; control = e .control; exc = e .exc; nzcv = e .nzcv }
+abbrev pub marksOf : Seen → Known
+marksOf e = record { flags = e .flags; control = e .control; exc = e .exc; nzcv = e .nzcv }
 
 -- a report and a count, with the machine, the window and the map that are left
 pub record Reply : Type 0 where
@@ -43,10 +35,6 @@ answered a window marks =
 abbrev pub reply : R.Watched → Reply
 reply e = record { says = report (e .stop); count = e .count; leaves = e .st; map = e .map }
 
-abbrev pub pickReply : Bool → Reply → Reply → Reply
-pickReply true a b = a
-pickReply false a b = b
-
 -- the first refusal that applies to a watched run, or 0: then it is within the limits
 abbrev pub limitOf : ℕ → List ℕ → State → Map → ℕ
 limitOf base list st μ = watchLimit (length list) base (length (st .window)) (st .machine .thumb) (μ .words)
@@ -55,4 +43,4 @@ limitOf base list st μ = watchLimit (length list) base (length (st .window)) (s
 unfoldable pub watchReply : ℕ → List ℕ → State → Map → Reply
 watchReply base list st μ =
     let n = limitOf base list st μ in
-    pickReply (eqb n 0) (reply (R.watch (meaning base) list 0 st μ)) (record { says = report (refused n); count = 0; leaves = st; map = μ })
+    cond (eqb n 0) (reply (R.watch (meaning base) list 0 st μ)) (record { says = report (refused n); count = 0; leaves = st; map = μ })

@@ -1,5 +1,4 @@
 // The watched run: the plain run with a map, which stops where the outcome would hang on an unknown place.
-pub mod hang;
 pub mod word;
 
 ghost use mathlib.Core.Path.{_≡_};

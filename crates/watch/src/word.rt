@@ -14,25 +14,28 @@ ghost use Rattle.memory.specs.LoadStore.{loadStoreTree};
 ghost use Rattle.transfers.specs.Transfer.{transferTree};
 ghost use Rattle.run.specs.Word.{classTree, meaning};
 ghost use Rattle.run.specs.Run.{nextOf};
-ghost use Rattle.watch.specs.Watch.{knownIn};
-use super::hang::Hang;
-use super::hang::hang_access;
-use super::hang::hang_data;
+ghost use Rattle.watch.specs.Watch.{marksOf};
 use access_marks::mark_load_store;
 use access_marks::single::mark_single_core;
 use access_marks::system::mark_system;
 use bits::field::bit;
 use bits::field::bits;
 use bits::psr::check_condition;
+use hangs::Hang;
+use hangs::access::hang_access;
+use hangs::data::hang_data;
 use machine::Controls;
+use machine::place::NZCV;
 use meaning::Known;
 use processing::Processed;
 use processing_marks::mark_data;
 use run::Next;
 use run::Stop;
 use run::word::foreign;
+use transfers::Transfer;
 use transfers::single::single_core;
 use transfers::system::system;
+use transfers::transfer_of;
 use vfp::current_pc;
 
 // What is no array of the machine and of the marks after a word, and what follows it. The marks stand one by one: a `Known` in here would be
@@ -59,7 +62,7 @@ pub fn watch_word(
     base: u32,
     op: u32,
 ) -> Seen
-    ensures { λ e. ⌜ seen (state (assembled (now (s .exit)) (now (r .exit)) (e .controls) false) (now (window .exit))) (mapFrom (now (ks .exit)) (now (kr .exit)) (knownIn e) (now («window_marks» .exit))) (nextOf (e .next)) ≡ watched (meaning base op) (state (assembled (now (s .entry)) (now (r .entry)) x false) (now (window .entry))) (mapFrom (now (ks .entry)) (now (kr .entry)) k (now («window_marks» .entry))) ⌝ }
+    ensures { λ e. ⌜ seen (state (assembled (now (s .exit)) (now (r .exit)) (e .controls) false) (now (window .exit))) (mapFrom (now (ks .exit)) (now (kr .exit)) (marksOf e) (now («window_marks» .exit))) (nextOf (e .next)) ≡ watched (meaning base op) (state (assembled (now (s .entry)) (now (r .entry)) x false) (now (window .entry))) (mapFrom (now (ks .entry)) (now (kr .entry)) k (now («window_marks» .entry))) ⌝ }
 {
     if foreign(op) {
         return Seen {
@@ -80,7 +83,7 @@ pub fn watch_word(
                 control: k.control,
                 exc: k.exc,
                 nzcv: k.nzcv,
-                next: Next::Halt(Stop::Hangs(51)),
+                next: Next::Halt(Stop::Hangs(NZCV)),
             };
         }
         let flags = x.cpsr;
@@ -111,7 +114,7 @@ fn watch_class(
     base: u32,
     op: u32,
 ) -> Seen
-    ensures { λ e. ⌜ seen (state (assembled (now (s .exit)) (now (r .exit)) (e .controls) false) (now (window .exit))) (mapFrom (now (ks .exit)) (now (kr .exit)) (knownIn e) (now («window_marks» .exit))) (nextOf (e .next)) ≡ watched (classTree base op) (state (assembled (now (s .entry)) (now (r .entry)) x false) (now (window .entry))) (mapFrom (now (ks .entry)) (now (kr .entry)) k (now («window_marks» .entry))) ⌝ }
+    ensures { λ e. ⌜ seen (state (assembled (now (s .exit)) (now (r .exit)) (e .controls) false) (now (window .exit))) (mapFrom (now (ks .exit)) (now (kr .exit)) (marksOf e) (now («window_marks» .exit))) (nextOf (e .next)) ≡ watched (classTree base op) (state (assembled (now (s .entry)) (now (r .entry)) x false) (now (window .entry))) (mapFrom (now (ks .entry)) (now (kr .entry)) k (now («window_marks» .entry))) ⌝ }
 {
     if bits(op, 25, 27) == 0b110 {
         let next = watch_access(s, r, window, ks, kr, window_marks, base, op);
@@ -164,48 +167,50 @@ fn watch_transfer(
     k: Known,
     op: u32,
 ) -> Seen
-    ensures { λ e. ⌜ ((v w : List ℕ) → seen (state (assembled (now (s .exit)) (now (r .exit)) (e .controls) false) v) (mapFrom (now (ks .exit)) (now (kr .exit)) (knownIn e) w) (nextOf (e .next)) ≡ watched (transferTree false op) (state (assembled (now (s .entry)) (now (r .entry)) x false) v) (mapFrom (now (ks .entry)) (now (kr .entry)) k w)) ⌝ }
+    ensures { λ e. ⌜ ((v w : List ℕ) → seen (state (assembled (now (s .exit)) (now (r .exit)) (e .controls) false) v) (mapFrom (now (ks .exit)) (now (kr .exit)) (marksOf e) w) (nextOf (e .next)) ≡ watched (transferTree false op) (state (assembled (now (s .entry)) (now (r .entry)) x false) v) (mapFrom (now (ks .entry)) (now (kr .entry)) k w)) ⌝ }
 {
-    let opc1 = bits(op, 21, 23);
-    if opc1 == 7 {
-        let known = mark_system(kr, k, op);
-        return Seen {
-            controls: system(r, x, op),
-            flags: known.flags,
-            control: known.control,
-            exc: known.exc,
-            nzcv: known.nzcv,
-            next: Next::On,
-        };
-    }
-    if opc1 == 0 {
-        mark_single_core(ks, kr, op);
-        if single_core(s, r, false, op) {
-            return Seen {
+    let transfer = transfer_of(op);
+    match transfer {
+        Transfer::System => {
+            let known = mark_system(kr, k, op);
+            Seen {
+                controls: system(r, x, op),
+                flags: known.flags,
+                control: known.control,
+                exc: known.exc,
+                nzcv: known.nzcv,
+                next: Next::On,
+            }
+        }
+        Transfer::Single => {
+            mark_single_core(ks, kr, op);
+            if single_core(s, r, false, op) {
+                return Seen {
+                    controls: x,
+                    flags: k.flags,
+                    control: k.control,
+                    exc: k.exc,
+                    nzcv: k.nzcv,
+                    next: Next::Last,
+                };
+            }
+            Seen {
                 controls: x,
                 flags: k.flags,
                 control: k.control,
                 exc: k.exc,
                 nzcv: k.nzcv,
-                next: Next::Last,
-            };
+                next: Next::On,
+            }
         }
-        return Seen {
+        Transfer::Nothing => Seen {
             controls: x,
             flags: k.flags,
             control: k.control,
             exc: k.exc,
             nzcv: k.nzcv,
             next: Next::On,
-        };
-    }
-    Seen {
-        controls: x,
-        flags: k.flags,
-        control: k.control,
-        exc: k.exc,
-        nzcv: k.nzcv,
-        next: Next::On,
+        },
     }
 }
 
@@ -219,7 +224,7 @@ fn watch_data(
     k: Known,
     op: u32,
 ) -> Seen
-    ensures { λ e. ⌜ ((v w : List ℕ) → seen (state (assembled (now (s .exit)) (now (r .entry)) (e .controls) false) v) (mapFrom (now (ks .exit)) (now (kr .entry)) (knownIn e) w) (nextOf (e .next)) ≡ watched (dataTree false op) (state (assembled (now (s .entry)) (now (r .entry)) x false) v) (mapFrom (now (ks .entry)) (now (kr .entry)) k w)) ⌝ }
+    ensures { λ e. ⌜ ((v w : List ℕ) → seen (state (assembled (now (s .exit)) (now (r .entry)) (e .controls) false) v) (mapFrom (now (ks .exit)) (now (kr .entry)) (marksOf e) w) (nextOf (e .next)) ≡ watched (dataTree false op) (state (assembled (now (s .entry)) (now (r .entry)) x false) v) (mapFrom (now (ks .entry)) (now (kr .entry)) k w)) ⌝ }
 {
     let hang = hang_data(kr, k, op);
     match hang {

@@ -1,34 +1,56 @@
 -- `transfers::coprocessor_register` meets its contract.
-use borrow.Author.Tests.{ne-eqb}
-use mathlib.Core.Path.{sym, _∙_}
-use borrow.Author.Needs.{needs}
 use Rattle.transfers.specs.Transfer.{transferTree}
 use Rattle.meaning.proofs.Laws.{plain-nothing}
+use mathlib.Core.Path.{sym, _∙_}
+use borrow.Author.Needs.{needs}
 use Rattle.transfers.proofs.coprocessor_register.Statement.{statement}
 use Rattle.transfers.proofs.coprocessor_register.Tie as tie
+use Rattle.transfers.proofs.coprocessor_register.Reads as reads
+use Rattle.transfers.proofs.coprocessor_register.Lts as lts
+use Rattle.transfers.proofs.single.single_core.Reads as single-core-reads
+use Rattle.transfers.proofs.system.system.Reads as system-reads
+use Rattle.transfers.proofs.transfer_of.Reads as transfer-of-reads
 
-bits-requires : tie.Need-bits-requires
-bits-requires c κs = search needs
+transfer-of-requires : tie.Need-transfer-of-requires
+transfer-of-requires c κs = search needs
+
+enum-told : tie.Need-enum-told
+enum-told c = search needs
 
 system-requires : tie.Need-system-requires
 system-requires c κs = search needs
 
-returns : tie.Need-returns
-unfolding transferTree
-returns c = λ v. rw (sym (c .before .before .before .bits .ensures) ∙ c .before .before .if1 .taken) (c .system .ensures _ _ _)
+enum-told-2 : tie.Need-enum-told-2
+enum-told-2 c = search needs
 
 single-core-requires : tie.Need-single-core-requires
 single-core-requires c κs = search needs
 
+enum-told-3 : tie.Need-enum-told-3
+enum-told-3 c = search needs
+
+returns : tie.Need-returns
+unfolding transferTree
+returns c = λ v. rw (sym (c .before .before .before .before .transfer-of .ensures) ∙ c .before .before .enum-told .given .1) (c .system .ensures _ _ _)
+
 returns-2 : tie.Need-returns-2
 unfolding transferTree
-returns-2 c = λ v. rw (sym (c .before .before .before .before .before .bits .ensures) ∙ c .before .before .before .if2 .taken) (c .single-core .ensures _ _)
+returns-2 c = λ v. rw (sym (c .before .before .before .before .before .transfer-of .ensures) ∙ c .before .before .before .enum-told2 .given .1) (c .single-core .ensures _ _)
 
 returns-3 : tie.Need-returns-3
 unfolding transferTree
-returns-3 c = λ v. rw (ne-eqb _ _ (rw (c .before .before .bits .ensures) at (c .before .if1 .left)), ne-eqb _ _ (rw (c .before .before .bits .ensures) at (c .if2 .left))) (plain-nothing _)
+returns-3 c = λ v. rw (sym (c .before .before .transfer-of .ensures) ∙ c .enum-told3 .given .1) (plain-nothing _)
 
 pub coprocessor-register-spec : {M : Type 1} → statement M
 coprocessor-register-spec =
     tie.close
-    (tie.spec bits-requires system-requires returns single-core-requires returns-2 returns-3)
+    (tie.spec
+    transfer-of-requires
+    enum-told
+    system-requires
+    enum-told-2
+    single-core-requires
+    enum-told-3
+    returns
+    returns-2
+    returns-3)

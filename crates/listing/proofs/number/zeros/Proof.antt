@@ -1,5 +1,5 @@
 -- `listing::number::zeros` meets its contract.
-use Rattle.listing.proofs.Spelling.{strip-zero, strip-digit, strip-end}
+use Rattle.listing.proofs.Digits.{strip-zero, strip-digit, strip-end}
 use Rattle.listing.specs.Number.{stripped}
 use Prim.Native.Nat.{_-_, _≤_}
 use lib.ListN.{drop}

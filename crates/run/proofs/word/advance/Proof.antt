@@ -6,15 +6,15 @@ use Rattle.run.proofs.word.advance.Tie as tie
 element-copy-out-pc : tie.Need-element-copy-out-pc
 element-copy-out-pc c = search needs
 
-wrapping-add-u32-requires : tie.Need-wrapping-add-u32-requires
-wrapping-add-u32-requires c κs = search needs
+plus-requires : tie.Need-plus-requires
+plus-requires c κs = search needs
 
 element-write-r : tie.Need-element-write-r
 element-write-r c = search needs
 
 returns : tie.Need-returns
-returns c = rw (c .wrapping-add-u32 .ensures)
+returns c = rw (c .plus .ensures)
 
 pub advance-spec : {M : Type 1} → statement M
 advance-spec =
-    tie.close (tie.spec element-copy-out-pc wrapping-add-u32-requires element-write-r returns)
+    tie.close (tie.spec element-copy-out-pc plus-requires element-write-r returns)

@@ -12,7 +12,7 @@ use Rattle.watch.proofs.word.watch_access.Reads as reads
 use Rattle.watch.proofs.word.watch_access.Lts as lts
 use Rattle.access_marks.proofs.mark_load_store.Reads as mark-load-store-reads
 use Rattle.memory.proofs.coprocessor_load_store.Reads as coprocessor-load-store-reads
-use Rattle.watch.proofs.hang.hang_access.Reads as hang-access-reads
+use Rattle.hangs.proofs.access.hang_access.Reads as hang-access-reads
 use Rattle.watch.proofs.word.watch_access.Statement.{statement}
 use Rattle.watch.proofs.word.watch_access.Tie as tie
 

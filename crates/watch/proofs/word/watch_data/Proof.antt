@@ -14,7 +14,7 @@ use Rattle.watch.proofs.word.watch_data.Lts as lts
 use Rattle.processing.proofs.data_processing.Reads as data-processing-reads
 use Rattle.processing_marks.proofs.mark_data.Reads as mark-data-reads
 use Rattle.vfp.proofs.current_pc.Reads as current-pc-reads
-use Rattle.watch.proofs.hang.hang_data.Reads as hang-data-reads
+use Rattle.hangs.proofs.data.hang_data.Reads as hang-data-reads
 use Rattle.watch.proofs.word.watch_data.Statement.{statement}
 use Rattle.watch.proofs.word.watch_data.Tie as tie
 

@@ -1,5 +1,5 @@
 -- `listing::text::Text::add_decimal` meets its contract.
-use Rattle.listing.proofs.Spelling.{decimal-part}
+use Rattle.listing.proofs.Digits.{decimal-part}
 use Rattle.listing.specs.Text.{textOf, clip}
 use Prim.Native.Nat.{ℕ}
 use mathlib.Core.List.{List, _++_}
@@ -8,11 +8,11 @@ use borrow.Author.Needs.{needs}
 use Rattle.listing.proofs.text.Text.add_decimal.Statement.{statement}
 use Rattle.listing.proofs.text.Text.add_decimal.Tie as tie
 
-slice-aggregate-spell : tie.Need-slice-aggregate-spell
-slice-aggregate-spell c = search needs
+slice-aggregate-write-digits : tie.Need-slice-aggregate-write-digits
+slice-aggregate-write-digits c = search needs
 
-spell-requires : tie.Need-spell-requires
-spell-requires c κs = search needs
+write-digits-requires : tie.Need-write-digits-requires
+write-digits-requires c κs = search needs
 
 zeros-requires : tie.Need-zeros-requires
 zeros-requires c κs = search needs
@@ -30,14 +30,14 @@ add-requires : tie.Need-add-requires
 add-requires c κs = search needs
 
 returns : tie.Need-returns
-returns c = c .add .ensures ∙ ap (λ (l : List ℕ). clip (textOf (c .before .before .before .before .before .before .before .args .self) ++ l)) (decimal-part _ (c .before .before .before .zeros .result) (c .before .before .before .before .before .before .before .args .x) (c .before .before .before .before .before .spell .ensures) (c .before .before .before .zeros .ensures .1))
+returns c = c .add .ensures ∙ ap (λ (l : List ℕ). clip (textOf (c .before .before .before .before .before .before .before .args .self) ++ l)) (decimal-part _ (c .before .before .before .zeros .result) (c .before .before .before .before .before .before .before .args .x) (c .before .before .before .before .before .write-digits .ensures) (c .before .before .before .zeros .ensures .1))
 
 pub add-decimal-spec : {M : Type 1} → statement M
 add-decimal-spec =
     tie.close
     (tie.spec
-    slice-aggregate-spell
-    spell-requires
+    slice-aggregate-write-digits
+    write-digits-requires
     zeros-requires
     sub-add
     part-add-start

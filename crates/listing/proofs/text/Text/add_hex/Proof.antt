@@ -4,11 +4,11 @@ use borrow.Author.Needs.{needs}
 use Rattle.listing.proofs.text.Text.add_hex.Statement.{statement}
 use Rattle.listing.proofs.text.Text.add_hex.Tie as tie
 
-slice-aggregate-spell : tie.Need-slice-aggregate-spell
-slice-aggregate-spell c = search needs
+slice-aggregate-write-digits : tie.Need-slice-aggregate-write-digits
+slice-aggregate-write-digits c = search needs
 
-spell-requires : tie.Need-spell-requires
-spell-requires c κs = search needs
+write-digits-requires : tie.Need-write-digits-requires
+write-digits-requires c κs = search needs
 
 slice-aggregate-add : tie.Need-slice-aggregate-add
 slice-aggregate-add c = search needs
@@ -18,9 +18,9 @@ add-requires c κs = search needs
 
 returns : tie.Need-returns
 unfolding hexText
-returns c = rw (c .before .before .before .spell .ensures) at (c .add .ensures)
+returns c = rw (c .before .before .before .write-digits .ensures) at (c .add .ensures)
 
 pub add-hex-spec : {M : Type 1} → statement M
 add-hex-spec =
     tie.close
-    (tie.spec slice-aggregate-spell spell-requires slice-aggregate-add add-requires returns)
+    (tie.spec slice-aggregate-write-digits write-digits-requires slice-aggregate-add add-requires returns)

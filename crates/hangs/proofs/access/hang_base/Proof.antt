@@ -1,11 +1,11 @@
--- `watch::hang::hang_base` meets its contract.
+-- `hangs::access::hang_base` meets its contract.
 use mathlib.Core.Path.{_∙_}
 use denote.Ref.{now}
 use borrow.Author.Needs.{needs}
-use Rattle.watch.proofs.Hangs.{pair-clear, base-asked}
+use Rattle.hangs.proofs.Hangs.{pair-clear, base-asked}
 use Rattle.meaning.specs.Map.{mapFrom}
-use Rattle.watch.proofs.hang.hang_base.Statement.{statement}
-use Rattle.watch.proofs.hang.hang_base.Tie as tie
+use Rattle.hangs.proofs.access.hang_base.Statement.{statement}
+use Rattle.hangs.proofs.access.hang_base.Tie as tie
 
 bits-requires : tie.Need-bits-requires
 bits-requires c κs = search needs

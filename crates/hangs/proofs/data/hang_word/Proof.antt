@@ -1,13 +1,13 @@
--- `watch::hang::hang_word` meets its contract.
+-- `hangs::data::hang_word` meets its contract.
 use mathlib.Core.Bool.{false}
 use mathlib.Core.Path.{_∙_}
 use denote.Ref.{now}
 use borrow.Author.Needs.{needs}
 use Rattle.processing.proofs.Done.{word-arithmetic, word-extension, word-none}
-use Rattle.watch.proofs.Hangs.{steps, undefined}
+use Rattle.hangs.proofs.Hangs.{steps, undefined}
 use Rattle.meaning.specs.Map.{mapFrom}
-use Rattle.watch.proofs.hang.hang_word.Statement.{statement}
-use Rattle.watch.proofs.hang.hang_word.Tie as tie
+use Rattle.hangs.proofs.data.hang_word.Statement.{statement}
+use Rattle.hangs.proofs.data.hang_word.Tie as tie
 
 kind-requires : tie.Need-kind-requires
 kind-requires c κs = search needs

@@ -1,50 +1,49 @@
 -- Which place a word hangs on, by the tests that the code makes.
-use Prim.Native.Nat.{ℕ, _+_}
-use mathlib.Core.Path.{_≡_, refl, _∙_}
-use native.Mathlib.Omega.{arith}
+use Prim.Native.Nat.{ℕ}
+use mathlib.Core.Path.{_≡_, refl, sym, _∙_}
+use Rattle.bits.proofs.Truth.{clash}
 use mathlib.Core.Bool.{Bool, true, false, cond, _&&_}
 use lib.Dec.{eqb}
 use lib.Ieee.{Format, binary32, binary64}
 use borrow.Author.Tests.{ne-eqb}
 use Rattle.bits.specs.Field.{field, bitOf}
-use Rattle.machine.specs.Place.{State, core, control}
+use Rattle.machine.specs.Place.{State, core, control, number}
 use Rattle.meaning.specs.Map.{Map, known}
 use Rattle.meaning.specs.Step.{Step, nothing}
 use Rattle.meaning.specs.Tree.{Tree, go}
-use Rattle.meaning.specs.Hang.{Hang, clear, at, pickHang, hangOf}
+use Rattle.meaning.specs.Hang.{Hang, clear, at, hangOf}
 use Rattle.processing.specs.Operation as O
 use Rattle.processing.specs.Operation.{Operation, extensionBy, operationOf}
 use Rattle.meaning.proofs.Laws.{clear-go}
 use Rattle.processing.specs.Data.{regD, stepping, undefinedTree, operationTree, extensionTree, dataTree}
 use Rattle.memory.specs.LoadStore.{accessTree, loadStoreTree}
-use Rattle.transfers.specs.Transfer.{systemTree, singleTree, transferTree}
+use Rattle.transfers.specs.declared.Transfer.{Transfer}
+use Rattle.transfers.specs.declared.Transfer.the-variants.{System, Single, Nothing}
+use Rattle.transfers.specs.Transfer.{transferBy}
 
-pub steps : (f : Format) (d : ℕ) (each : ℕ → ℕ → Step) (st : State) (μ : Map) → pickHang (known μ control) clear (at 49) ≡ hangOf (stepping f d each) st μ
+pub steps : (f : Format) (d : ℕ) (each : ℕ → ℕ → Step) (st : State) (μ : Map) → cond (known μ control) clear (at (number control)) ≡ hangOf (stepping f d each) st μ
 unfolding hangOf
 steps f d each st μ = refl
 
-pub undefined : (thumb : Bool) (w : ℕ) (st : State) (μ : Map) → pickHang (known μ (core 15)) clear (at 47) ≡ hangOf (undefinedTree thumb w) st μ
+pub undefined : (thumb : Bool) (w : ℕ) (st : State) (μ : Map) → cond (known μ (core 15)) clear (at (number (core 15))) ≡ hangOf (undefinedTree thumb w) st μ
 unfolding hangOf
 undefined thumb w st μ = refl
-
-clash : false ≡ true → ⊥
-clash e = let n : _≡_ {A = ℕ} 0 1 = cc in omega arith
 
 -- ---- where FPSCR 27:0 and r15 are known, no word of data processing hangs
 
 pub both : (a b : Bool) → (a && b) ≡ true → (a ≡ true) × (b ≡ true)
 both true b e = (refl, e)
-both false b e = (e, absurd (clash e))
+both false b e = (e, absurd (clash (sym e)))
 
-picked : (b : Bool) (x : Hang) → b ≡ true → clear ≡ pickHang b clear x
+picked : (b : Bool) (x : Hang) → b ≡ true → clear ≡ cond b clear x
 picked b x e = rw e
 
 module _ (st : State) (μ : Map) (p : known μ control ≡ true) (q : known μ (core 15) ≡ true) where
   stepping-known : (f : Format) (d : ℕ) (each : ℕ → ℕ → Step) → clear ≡ hangOf (stepping f d each) st μ
-  stepping-known f d each = picked (known μ control) (at 49) p ∙ steps f d each st μ
+  stepping-known f d each = picked (known μ control) (at (number control)) p ∙ steps f d each st μ
 
   undefined-known : (w : ℕ) → clear ≡ hangOf (undefinedTree false w) st μ
-  undefined-known w = picked (known μ (core 15)) (at 47) q ∙ undefined false w st μ
+  undefined-known w = picked (known μ (core 15)) (at (number (core 15))) q ∙ undefined false w st μ
 
   operation-known : (f : Format) (w : ℕ) (o : Operation) → clear ≡ hangOf (operationTree false f w o) st μ
   unfolding operationTree
@@ -100,7 +99,7 @@ module _ (f : Format) (w k : ℕ) (p : k ≡ field w 16 19) (st : State) (μ : M
   unfolding hangOf operationTree extensionBy
   convert-clear e b q r = rw (← p, e, ← q, r)
 
-  pub convert-none : k ≡ 7 → (b : Bool) → b ≡ bitOf w 7 → b ≡ false → pickHang (known μ (core 15)) clear (at 47) ≡ hangOf (extensionTree f w false) st μ
+  pub convert-none : k ≡ 7 → (b : Bool) → b ≡ bitOf w 7 → b ≡ false → cond (known μ (core 15)) clear (at (number (core 15))) ≡ hangOf (extensionTree f w false) st μ
   unfolding hangOf operationTree extensionBy
   convert-none e b q r = rw (← p, e, ← q, r)
 
@@ -111,7 +110,7 @@ module _ (f : Format) (base w : ℕ) (st : State) (μ : Map) where
   unfolding hangOf accessTree
   pair-clear k p e = rw (← p, e)
 
-  pub base-asked : (k : ℕ) → k ≡ field w 21 27 → (k ≡ 0b110_0010 → ⊥) → (n : ℕ) → n ≡ field w 16 19 → pickHang (known μ (core n)) clear (at (32 + n)) ≡ hangOf (accessTree f base w) st μ
+  pub base-asked : (k : ℕ) → k ≡ field w 21 27 → (k ≡ 0b110_0010 → ⊥) → (n : ℕ) → n ≡ field w 16 19 → cond (known μ (core n)) clear (at (number (core n))) ≡ hangOf (accessTree f base w) st μ
   unfolding hangOf accessTree
   base-asked k p e n q = rw (← p, ne-eqb _ _ e, ← q)
 
@@ -128,30 +127,14 @@ module _ (base w k : ℕ) (p : k ≡ field w 8 11) where
   unfolding loadStoreTree
   access-none a b = rw (← p, ne-eqb _ _ a, ne-eqb _ _ b)
 
--- ---- transfers, by bits 23:21
-
-module _ (thumb : Bool) (w k : ℕ) (p : k ≡ field w 21 23) where
-  pub transfer-system : k ≡ 7 → transferTree thumb w ≡ systemTree w
-  unfolding transferTree
-  transfer-system e = rw (← p, e)
-
-  pub transfer-single : k ≡ 0 → transferTree thumb w ≡ singleTree thumb w
-  unfolding transferTree
-  transfer-single e = rw (← p, e)
-
-  pub transfer-none : (k ≡ 7 → ⊥) → (k ≡ 0 → ⊥) → transferTree thumb w ≡ go nothing
-  unfolding transferTree
-  transfer-none a b = rw (← p, ne-eqb _ _ a, ne-eqb _ _ b)
-
 -- ---- a transfer asks for nothing
 
 either : (b : Bool) (x y : Tree) (st : State) (μ : Map) → clear ≡ hangOf x st μ → clear ≡ hangOf y st μ → clear ≡ hangOf (cond b x y) st μ
 either true x y st μ p q = p
 either false x y st μ p q = q
 
-pub transfers-clear : (thumb : Bool) (w : ℕ) (st : State) (μ : Map) → clear ≡ hangOf (transferTree thumb w) st μ
-unfolding transferTree hangOf
-transfers-clear thumb w st μ =
-    either (eqb (field w 21 23) 7) (systemTree w) _ st μ
-    (either (bitOf w 20) _ _ st μ (either (eqb (field w 12 15) 15) _ _ st μ refl refl) refl)
-    (either (eqb (field w 21 23) 0) (singleTree thumb w) _ st μ (either (bitOf w 20) _ _ st μ (either (eqb (field w 12 15) 15) _ _ st μ refl refl) refl) refl)
+pub transfer-clear : (t : Transfer) (thumb : Bool) (w : ℕ) (st : State) (μ : Map) → clear ≡ hangOf (transferBy t thumb w) st μ
+unfolding hangOf
+transfer-clear System thumb w st μ = either (bitOf w 20) _ _ st μ (either (eqb (field w 12 15) 15) _ _ st μ refl refl) refl
+transfer-clear Single thumb w st μ = either (bitOf w 20) _ _ st μ (either (eqb (field w 12 15) 15) _ _ st μ refl refl) refl
+transfer-clear Nothing thumb w st μ = refl

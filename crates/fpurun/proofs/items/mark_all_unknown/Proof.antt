@@ -1,10 +1,10 @@
--- `fpurun::items::forget_all` meets its contract.
+-- `fpurun::items::mark_all_unknown` meets its contract.
 use borrow.Author.Needs.{needs}
 use Prim.Native.Nat.{_-_}
 use native.Mathlib.Omega.{arith}
 use lib.ListN.{length}
-use Rattle.fpurun.proofs.items.forget_all.Statement.{statement}
-use Rattle.fpurun.proofs.items.forget_all.Tie as tie
+use Rattle.fpurun.proofs.items.mark_all_unknown.Statement.{statement}
+use Rattle.fpurun.proofs.items.mark_all_unknown.Tie as tie
 
 abbrev Inv-loop : tie.InvT-loop
 Inv-loop layout marks₀ window-marks₀ line from words at₀ marks window-marks at = Unit {0}
@@ -24,8 +24,8 @@ enum-known-next c = search needs
 index-requires : tie.Need-index-requires Inv-loop μ-loop
 index-requires c κs = search needs
 
-forget-requires : tie.Need-forget-requires Inv-loop μ-loop
-forget-requires c κs = search needs
+mark-unknown-requires : tie.Need-mark-unknown-requires Inv-loop μ-loop
+mark-unknown-requires c κs = search needs
 
 returns : tie.Need-returns Inv-loop μ-loop
 returns c = search needs
@@ -48,8 +48,8 @@ enum-told-2 c = search needs
 returns-3 : tie.Need-returns-3 Inv-loop μ-loop
 returns-3 c = search needs
 
-pub forget-all-spec : {M : Type 1} → statement M
-forget-all-spec =
+pub mark-all-unknown-spec : {M : Type 1} → statement M
+mark-all-unknown-spec =
     tie.close
     (tie.spec
     Inv-loop
@@ -58,7 +58,7 @@ forget-all-spec =
     next-place-requires
     enum-known-next
     index-requires
-    forget-requires
+    mark-unknown-requires
     returns
     loop-less
     loop-again

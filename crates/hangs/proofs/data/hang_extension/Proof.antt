@@ -1,4 +1,4 @@
--- `watch::hang::hang_extension` meets its contract.
+-- `hangs::data::hang_extension` meets its contract.
 use mathlib.Core.Bool.{false}
 use mathlib.Core.Path.{refl, _∙_}
 use denote.Ref.{now}
@@ -7,10 +7,10 @@ use Rattle.processing.specs.Data.{operationTree}
 use Rattle.processing.specs.Operation.{extensionBy}
 use Rattle.meaning.specs.Hang.{clear, hangOf}
 use Rattle.processing.proofs.Done.{extension-none}
-use Rattle.watch.proofs.Hangs.{convert-clear, convert-none, either-bit, undefined}
+use Rattle.hangs.proofs.Hangs.{convert-clear, convert-none, either-bit, undefined}
 use Rattle.meaning.specs.Map.{mapFrom}
-use Rattle.watch.proofs.hang.hang_extension.Statement.{statement}
-use Rattle.watch.proofs.hang.hang_extension.Tie as tie
+use Rattle.hangs.proofs.data.hang_extension.Statement.{statement}
+use Rattle.hangs.proofs.data.hang_extension.Tie as tie
 
 bits-requires : tie.Need-bits-requires
 bits-requires c κs = search needs

@@ -1,6 +1,6 @@
--- `listing::number::spell` meets its contract.
+-- `listing::number::write_digits` meets its contract.
 use denote.Ref.{now}
-use Rattle.listing.proofs.Spelling.{spelled, spell-start, spell-end}
+use Rattle.listing.proofs.Digits.{digit-written, digits-start, digits-end}
 use Rattle.listing.specs.Number.{digitsText}
 use Prim.Native.Nat.{_≤_}
 use mathlib.Core.List.{_++_}
@@ -8,8 +8,8 @@ use lib.ListN.{length, drop, length-set}
 use mathlib.Core.Path.{_≡_, refl, _∙_}
 use borrow.Author.Needs.{needs}
 use native.Mathlib.Omega.{arith}
-use Rattle.listing.proofs.number.spell.Statement.{statement}
-use Rattle.listing.proofs.number.spell.Tie as tie
+use Rattle.listing.proofs.number.write_digits.Statement.{statement}
+use Rattle.listing.proofs.number.write_digits.Tie as tie
 
 abbrev Inv-loop : tie.InvT-loop
 Inv-loop x base out₀ i₀ rest₀ out i rest = (i ≤ length out) × (length out ≡ length out₀) × (digitsText base i rest ++ drop i out ≡ digitsText base (length out₀) x)
@@ -18,7 +18,7 @@ abbrev μ-loop : tie.MeasureT-loop
 μ-loop x base out₀ i₀ rest₀ out i rest = i
 
 loop-holds : tie.Need-loop-holds Inv-loop μ-loop
-loop-holds c = (omega arith, refl, spell-start _ (c .before .args .x) (now (c .before .args .out)))
+loop-holds c = (omega arith, refl, digits-start _ (c .before .args .x) (now (c .before .args .out)))
 
 sub-i : tie.Need-sub-i Inv-loop μ-loop
 sub-i c = omega arith
@@ -39,16 +39,16 @@ loop-less : tie.Need-loop-less Inv-loop μ-loop
 loop-less c = omega arith
 
 loop-again : tie.Need-loop-again Inv-loop μ-loop
-loop-again c = (simp length-set (omega arith), simp length-set (c .before .before .loop .inv .1), spelled _ _ _ _ _ (c .before .before .before .before .pre) (c .before .loop-test .taken) (c .before .before .loop .inv .0) (c .digit-text .ensures) ∙ c .before .before .loop .inv .2)
+loop-again c = (simp length-set (omega arith), simp length-set (c .before .before .loop .inv .1), digit-written _ _ _ _ _ (c .before .before .before .before .pre) (c .before .loop-test .taken) (c .before .before .loop .inv .0) (c .digit-text .ensures) ∙ c .before .before .loop .inv .2)
 
 same-length : tie.Need-same-length Inv-loop μ-loop
 same-length c = c .before .loop .inv .1
 
 returns : tie.Need-returns Inv-loop μ-loop
-returns c = spell-end _ _ _ _ _ (c .loop-test .left) (c .before .loop .inv .2)
+returns c = digits-end _ _ _ _ _ (c .loop-test .left) (c .before .loop .inv .2)
 
-pub spell-spec : {M : Type 1} → statement M
-spell-spec =
+pub write-digits-spec : {M : Type 1} → statement M
+write-digits-spec =
     tie.close
     (tie.spec
     Inv-loop

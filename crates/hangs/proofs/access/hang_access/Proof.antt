@@ -1,12 +1,12 @@
--- `watch::hang::hang_access` meets its contract.
+-- `hangs::access::hang_access` meets its contract.
 use lib.Ieee.{binary32, binary64}
 use denote.Ref.{now}
 use borrow.Author.Needs.{needs}
-use Rattle.watch.proofs.Hangs.{access-single, access-double, access-none}
+use Rattle.hangs.proofs.Hangs.{access-single, access-double, access-none}
 use Rattle.meaning.proofs.Laws.{clear-go}
 use Rattle.meaning.specs.Map.{mapFrom}
-use Rattle.watch.proofs.hang.hang_access.Statement.{statement}
-use Rattle.watch.proofs.hang.hang_access.Tie as tie
+use Rattle.hangs.proofs.access.hang_access.Statement.{statement}
+use Rattle.hangs.proofs.access.hang_access.Tie as tie
 
 bits-requires : tie.Need-bits-requires
 bits-requires c κs = search needs

@@ -1,4 +1,4 @@
--- A number's digits are spelled from the last one on, and zeros in front are left out.
+-- A number's digits are written from the last one on, and zeros in front are left out.
 use Prim.Native.Nat.{ℕ, zero, suc, _+_, _-_, _/_, _%_, _≤_, _<_}
 use native.Mathlib.Omega.{arith}
 use native.Mathlib.Numerals.{add-one, sub-one}
@@ -16,21 +16,21 @@ unfolding digitsText
 one-more base out j rest d h e =
     rw (drop-cons (set out j d) j 0 (rw (length-set) h), getD-set-same out j d 0 h, drop-set-lt (suc j) out j d (omega arith), append-assoc, e)
 
-pub spelled : (base : ℕ) (out : List ℕ) (i rest d : ℕ) → (0 < base) × (base ≤ 16) → 0 < i → i ≤ length out → d ≡ digitText (rest % base % 16) → digitsText base (i - 1) (rest / base) ++ drop (i - 1) (set out (i - 1) d) ≡ digitsText base i rest ++ drop i out
-spelled base out zero rest d b p h e = absurd (omega arith)
-spelled base out (suc j) rest d b p h e =
+pub digit-written : (base : ℕ) (out : List ℕ) (i rest d : ℕ) → (0 < base) × (base ≤ 16) → 0 < i → i ≤ length out → d ≡ digitText (rest % base % 16) → digitsText base (i - 1) (rest / base) ++ drop (i - 1) (set out (i - 1) d) ≡ digitsText base i rest ++ drop i out
+digit-written base out zero rest d b p h e = absurd (omega arith)
+digit-written base out (suc j) rest d b p h e =
     rw (sub-one (suc j)) (one-more base out j rest d (omega arith) (e ∙ ap digitText (mod-eq-of-lt (small (b .0) (b .1)))))
   where
     small : 0 < base → base ≤ 16 → rest % base < 16
     small p q = omega (arith, mod-lt rest p)
 
-pub spell-start : (base x : ℕ) (out : List ℕ) → digitsText base (length out) x ++ drop (length out) out ≡ digitsText base (length out) x
-spell-start base x out = rw (drop-length out, append-nil)
+pub digits-start : (base x : ℕ) (out : List ℕ) → digitsText base (length out) x ++ drop (length out) out ≡ digitsText base (length out) x
+digits-start base x out = rw (drop-length out, append-nil)
 
-pub spell-end : (base rest : ℕ) (out z : List ℕ) (i : ℕ) → i ≤ 0 → digitsText base i rest ++ drop i out ≡ z → out ≡ z
+pub digits-end : (base rest : ℕ) (out z : List ℕ) (i : ℕ) → i ≤ 0 → digitsText base i rest ++ drop i out ≡ z → out ≡ z
 unfolding digitsText
-spell-end base rest out z zero h e = e
-spell-end base rest out z (suc i) h e = absurd (omega arith)
+digits-end base rest out z zero h e = e
+digits-end base rest out z (suc i) h e = absurd (omega arith)
 
 module _ (t : List ℕ) (n : ℕ) (m : n < 9) (h : n < length t) where
   next : suc (9 - (n + 1)) ≡ 9 - n

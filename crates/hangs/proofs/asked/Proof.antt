@@ -1,7 +1,7 @@
--- `watch::hang::asked` meets its contract.
+-- `hangs::asked` meets its contract.
 use borrow.Author.Needs.{needs}
-use Rattle.watch.proofs.hang.asked.Statement.{statement}
-use Rattle.watch.proofs.hang.asked.Tie as tie
+use Rattle.hangs.proofs.asked.Statement.{statement}
+use Rattle.hangs.proofs.asked.Tie as tie
 
 returns : tie.Need-returns
 returns c = search needs

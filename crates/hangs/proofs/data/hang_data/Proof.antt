@@ -1,5 +1,5 @@
--- `watch::hang::hang_data` meets its contract.
-use Rattle.watch.proofs.Hangs.{both, data-known, undefined}
+-- `hangs::data::hang_data` meets its contract.
+use Rattle.hangs.proofs.Hangs.{both, data-known, undefined}
 use lib.ListN.{getD}
 use Rattle.processing.proofs.Done.{data-single, data-double, data-none}
 use mathlib.Core.Path.{_∙_}
@@ -8,13 +8,13 @@ use Rattle.meaning.specs.Map.{mapFrom}
 use denote.Ref.{now}
 use mathlib.Core.Bool.{false}
 use borrow.Author.Needs.{needs}
-use Rattle.watch.proofs.hang.hang_data.Reads as reads
-use Rattle.watch.proofs.hang.hang_data.Lts as lts
+use Rattle.hangs.proofs.data.hang_data.Reads as reads
+use Rattle.hangs.proofs.data.hang_data.Lts as lts
 use Rattle.bits.proofs.field.bits.Reads as bits-reads
-use Rattle.watch.proofs.hang.asked.Reads as asked-reads
-use Rattle.watch.proofs.hang.hang_word.Reads as hang-word-reads
-use Rattle.watch.proofs.hang.hang_data.Statement.{statement}
-use Rattle.watch.proofs.hang.hang_data.Tie as tie
+use Rattle.hangs.proofs.asked.Reads as asked-reads
+use Rattle.hangs.proofs.data.hang_word.Reads as hang-word-reads
+use Rattle.hangs.proofs.data.hang_data.Statement.{statement}
+use Rattle.hangs.proofs.data.hang_data.Tie as tie
 
 element-copy-out-if1 : tie.Need-element-copy-out-if1
 element-copy-out-if1 c = search needs

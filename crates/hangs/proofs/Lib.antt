@@ -1,0 +1,2 @@
+-- Which place a word hangs on.
+pub mod Hangs
