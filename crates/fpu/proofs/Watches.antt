@@ -1,12 +1,11 @@
 -- From what the watched run promises to what its exported function leaves and promises.
 use Prim.Native.Nat.{ℕ}
 use mathlib.Core.Path.{_≡_, refl, sym, _∙_}
-use mathlib.Core.Bool.{Bool, true, false, not}
+use mathlib.Core.Bool.{Bool, true, false, not, true≢false}
 use mathlib.Core.List.{List}
 use lib.Dec.{eqb}
 use lib.ListN.{length}
 use borrow.Author.Tests.{not-true, not-false}
-use Rattle.bits.proofs.Truth.{clash}
 use Rattle.machine.specs.declared.Machine.{Machine}
 use Rattle.machine.specs.Place.{state}
 use Rattle.meaning.specs.declared.Marks.{Marks}
@@ -55,7 +54,7 @@ module _ (base : ℕ) (list l m w v : List ℕ) (thumb : ℕ) (a : List ℕ) (b 
       }
     where
       no : validWatch l m thumb (length a) ≡ true → ⊥
-      no t = clash (sym t ∙ (sym u ∙ not-true b e))
+      no t = true≢false (sym t ∙ (sym u ∙ not-true b e))
 
   -- a watched run
   module _ (q : Machine) (k : Marks) (x : Watched) (r : ℕ) (l′ m′ w′ v′ a′ : List ℕ) (e : not b ≡ false) (eq : q ≡ decode (eqb thumb 1) l) (ek : k ≡ decodeMarks m)
