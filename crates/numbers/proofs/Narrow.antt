@@ -10,17 +10,18 @@ use lib.Pow.{pow-add, pow-pos}
 use lib.Ieee.{Float, nan, inf, fin, Format, binary32, binary64, up, down, hid, ones, top, ofBits, toBits}
 use lib.Ieee.Fits.{down-pos}
 use lib.Ieee.Exact.{HasValue}
-use Rattle.numbers.specs.Flush.{flush}
-use Rattle.numbers.specs.Rounding.{rounded, exactly, cutTo, packed, IsCut, IsSettled}
+use Rattle.rounding.specs.Flush.{flush}
+use Rattle.rounding.specs.Rounding.{rounded, exactly, cutTo, IsCut}
+use Rattle.rounding.specs.Pack.{packed, IsSettled}
 use Rattle.numbers.specs.Convert.{narrowed, narrowsExactly, narrow, IsNarrowed}
-use Rattle.numbers.specs.declared.rounding.Rounding.{Rounding}
-use Rattle.numbers.specs.declared.rounding.Rounding.the-variants.{Nearest}
-use Rattle.numbers.proofs.Units.{slide, sign-bit, reads-low, reads-normal, reads-inf}
-use Rattle.numbers.proofs.Patterns.{nan-of-fields}
-use Rattle.numbers.proofs.Written.{rounded-same, exactly-same, rounded-bits}
-use Rattle.numbers.proofs.Cutting.{cut-ge, cut-le, cut-by-sum}
-use Rattle.numbers.proofs.Flushing.{flush-large}
-use Rattle.numbers.proofs.Settle.{settled-same}
+use Rattle.rounding.specs.declared.rounding.Rounding.{Rounding}
+use Rattle.rounding.specs.declared.rounding.Rounding.the-variants.{Nearest}
+use Rattle.rounding.proofs.Units.{slide, sign-bit, reads-low, reads-normal, reads-inf}
+use Rattle.rounding.proofs.Patterns.{nan-of-fields}
+use Rattle.rounding.proofs.Written.{rounded-same, exactly-same, rounded-bits}
+use Rattle.rounding.proofs.Cutting.{cut-ge, cut-le, cut-by-sum}
+use Rattle.rounding.proofs.Flushing.{flush-large}
+use Rattle.rounding.proofs.Settle.{settled-same}
 
 -- ---- by the value's size a / c
 

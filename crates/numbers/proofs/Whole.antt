@@ -3,30 +3,30 @@ use mathlib.Core.Path.{_≡_, refl, sym, ap, _∙_, subst}
 use mathlib.Core.Logic.{inr}
 use mathlib.Core.Bool.{Bool, true, false, _&&_, cond}
 use Prim.Native.Nat.{ℕ, _+_, _-_, _*_, _/_, _%_, _^_, _≤_, _<_, min}
-use native.Mathlib.Nat.{le-trans, le-of-eq, le-of-lt, lt-of-lt-of-le, one-mul, mul-one, min-eq-left, mul-assoc, mul-le-mul, mod-eq-of-lt, le-div-iff-mul-le}
+use native.Mathlib.Nat.{le-trans, le-of-eq, le-of-lt, lt-of-lt-of-le, one-mul, mul-one, min-eq-left, mul-assoc, mul-le-mul, le-div-iff-mul-le}
 use native.Mathlib.Omega.{arith}
 use lib.Dec.{leb, ltb, eqb, lit≤, lit<}
 use lib.Pow.{pow-add, pow-pos, pow-mono}
-use lib.Ieee.{Float, nan, inf, fin, Format, binary32, binary64, up, down, top, ofBits, toBits}
+use lib.Ieee.{Float, nan, inf, fin, Format, binary32, binary64, up, down, ofBits, toBits}
 use lib.Ieee.Fits.{down-pos, fits-widens}
 use lib.Ieee.Bits.{ofBits-toBits, ofBits-fits}
 use lib.Ieee.Exact.{HasValue}
 use borrow.Author.Tests.{le-leb, lt-leb, lt-ltb}
-use Rattle.numbers.specs.Rounding.{cutTo, rounded, ceiling, IsCut, IsSettled}
+use Rattle.rounding.specs.Rounding.{cutTo, rounded, IsCut}
+use Rattle.rounding.specs.Pack.{ceiling, IsSettled}
 use Rattle.numbers.specs.Integer.{fromInteger, clamped, integerOf, toInteger}
-use Rattle.numbers.specs.Convert.{widen, Lifted}
-use Rattle.numbers.specs.declared.rounding.Rounding.{Rounding}
-use Rattle.numbers.specs.declared.rounding.Rounding.the-variants.{Nearest}
-use Rattle.numbers.proofs.Units.{slide, reads-low, reads-normal, reads-inf}
-use Rattle.numbers.proofs.Patterns.{nan-of-fields}
-use Rattle.numbers.proofs.Cutting.{move-ge, cut-le, cut-same, cut-far}
-use Rattle.numbers.proofs.Written.{ceiling-ge, rounded-bits, exactly-is}
-use Rattle.numbers.proofs.Settle.{settled-same}
+use Rattle.numbers.specs.Convert.{widen}
+use Rattle.rounding.specs.Lift.{Lifted}
+use Rattle.rounding.specs.declared.rounding.Rounding.{Rounding}
+use Rattle.rounding.specs.declared.rounding.Rounding.the-variants.{Nearest}
+use Rattle.rounding.proofs.Units.{slide, reads-low, reads-normal, reads-inf}
+use Rattle.rounding.proofs.Patterns.{nan-of-fields}
+use Rattle.rounding.proofs.Cutting.{move-ge, cut-le, cut-same, cut-far}
+use Rattle.rounding.proofs.Written.{ceiling-ge, rounded-bits, exactly-is}
+use Rattle.rounding.proofs.Settle.{settled-same}
+use Rattle.rounding.proofs.Lifting.{moved-is}
 
 -- ---- a whole number as a float, over the format
-
-pub moved-is : (n r : ℕ) → Lifted n r → n * 2 ^ r % 2 ^ 64 ≡ n * 2 ^ r
-moved-is n r l = mod-eq-of-lt (lt-of-lt-of-le (l .below) (lit≤ tt))
 
 pub whole-zero : (mode : Rounding) (f : Format) (s : Bool) (n bits : ℕ) (x : Bool) → n ≡ 0 → IsSettled mode f s (0 * 2 ^ 0) (2 ^ 2209) bits x → IsSettled mode f s n 1 bits x
 whole-zero mode f s n bits x e p = settled-same mode f s (0 * 2 ^ 0) (2 ^ 2209) n 1 bits x (pow-pos 2209) (lit< tt) (sym (ap (λ (z : ℕ). z * 2 ^ 2209) e)) p

@@ -1,12 +1,12 @@
 -- Conversions between the widths. Assumes nothing.
-use Prim.Native.Nat.{ℕ, _*_, _^_, _≤_, _<_}
+use Prim.Native.Nat.{ℕ, _*_}
 use mathlib.Core.Path.{_≡_}
 use mathlib.Core.Bool.{Bool, true}
 use lib.Ieee.{Float, nan, inf, fin, Format, binary32, binary64, up, down, ofBits, toBits}
-use Rattle.numbers.specs.Flush.{flush}
-use Rattle.numbers.specs.Rounding.{rounded, exactly}
-use Rattle.numbers.specs.declared.rounding.Rounding.{Rounding}
-use Rattle.numbers.specs.declared.rounding.Rounding.the-variants.{Nearest}
+use Rattle.rounding.specs.Flush.{flush}
+use Rattle.rounding.specs.Rounding.{rounded, exactly}
+use Rattle.rounding.specs.declared.rounding.Rounding.{Rounding}
+use Rattle.rounding.specs.declared.rounding.Rounding.the-variants.{Nearest}
 
 -- a value of any format at the format f, rounded once
 unfoldable pub narrowed : Rounding → Format → Float → Float
@@ -32,9 +32,3 @@ widen b = toBits binary64 (ofBits binary32 b)
 pub record IsNarrowed (mode : Rounding) (f : Format) (v : Float) (bits : ℕ) (exact : Bool) : Type 0 where
   pub bits-are : bits ≡ toBits f (narrowed mode f v)
   pub exact-is : exact ≡ narrowsExactly f v
-
--- what moving a number up to 53 digits gives
-pub record Lifted (t r : ℕ) : Type 0 where
-  pub most : r ≤ 52
-  pub least : 2 ^ 52 ≤ t * 2 ^ r
-  pub below : t * 2 ^ r < 2 ^ 53

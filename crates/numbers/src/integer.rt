@@ -2,18 +2,18 @@
 ghost use mathlib.Core.Path.{_≡_};
 ghost use Prim.Native.Nat.{_<_, _^_};
 ghost use lib.Ieee.{binary32, binary64};
-ghost use Rattle.numbers.specs.Rounding.{IsSettled};
+ghost use Rattle.rounding.specs.Pack.{IsSettled};
 ghost use Rattle.numbers.specs.Integer.{fromInteger, clamped, toInteger};
-use super::convert::lift;
 use super::convert::widen;
-use super::rounding::Rounding;
-use super::rounding::Settled32;
-use super::rounding::Settled64;
-use super::rounding::cut;
-use super::rounding::least;
-use super::rounding::settle32;
-use super::rounding::settle64;
-use super::rounding::sign32;
+use rounding::lift::lift;
+use rounding::pack::Settled32;
+use rounding::pack::Settled64;
+use rounding::pack::settle32;
+use rounding::pack::settle64;
+use rounding::pack::sign32;
+use rounding::rounding::Rounding;
+use rounding::rounding::cut;
+use rounding::rounding::least;
 
 // A whole number as a single, rounded. Of its 53 digits 29 are dropped, and it is never too large.
 pub fn whole32(mode: Rounding, negative: bool, n: u64) -> Settled32

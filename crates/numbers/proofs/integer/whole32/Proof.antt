@@ -1,5 +1,5 @@
 use Rattle.numbers.proofs.Whole.{whole-zero, kept-few, whole-cut}
-use Rattle.numbers.proofs.Settle.{sign-le}
+use Rattle.rounding.proofs.Settle.{sign-le}
 use lib.Ieee.{binary32}
 use lib.Dec.{lit<}
 use mathlib.Core.Logic.{inl}
