@@ -29,13 +29,13 @@ pub enum Arithmetic {
 }
 
 // The operands n and m of one step, and the old d.
-pub struct Singles {
+struct Singles {
     pub n: f32,
     pub m: f32,
     pub d: f32,
 }
 
-pub struct Doubles {
+struct Doubles {
     pub n: f64,
     pub m: f64,
     pub d: f64,
@@ -58,7 +58,7 @@ pub fn reads_d(kind: Arithmetic) -> bool
     }
 }
 
-pub fn apply32(kind: Arithmetic, x: Singles) -> f32
+fn apply32(kind: Arithmetic, x: Singles) -> f32
     ensures { λ r. ⌜ r ≡ apply binary32 kind (x .n) (x .m) (x .d) ⌝ }
 {
     let n = x.n;
@@ -77,7 +77,7 @@ pub fn apply32(kind: Arithmetic, x: Singles) -> f32
     }
 }
 
-pub fn apply64(kind: Arithmetic, x: Doubles) -> f64
+fn apply64(kind: Arithmetic, x: Doubles) -> f64
     ensures { λ r. ⌜ r ≡ apply binary64 kind (x .n) (x .m) (x .d) ⌝ }
 {
     let n = x.n;

@@ -35,8 +35,8 @@ pub fn widen(b: u32) -> u64
 }
 
 // A double's bits as the single that the mode asks for, rounded once.
-pub fn narrowed32(mode: Rounding, b: u64) -> Settled32
-    ensures { λ r. ⌜ IsNarrowed mode binary32 (ofBits binary64 b) (r .bits) (r .exact) ⌝ }
+fn narrowed32(mode: Rounding, b: u64) -> Settled32
+    ensures { λ r. ⌜ IsNarrowed mode binary32 (ofBits binary64 b) (r .bits) (r .exact) (r .over) (r .tiny) ⌝ }
 {
     let negative = b >= 0x8000_0000_0000_0000;
     let field = b % 0x8000_0000_0000_0000 / 0x10_0000_0000_0000;
@@ -46,11 +46,15 @@ pub fn narrowed32(mode: Rounding, b: u64) -> Settled32
             return Settled32 {
                 bits: (sign32(negative) + 0x7F80_0000) as u32,
                 exact: true,
+                over: false,
+                tiny: false,
             };
         }
         return Settled32 {
             bits: 0x7FC0_0000,
             exact: true,
+            over: false,
+            tiny: false,
         };
     }
     if field == 0 {

@@ -12,13 +12,13 @@ use rounding::word::bits64;
 use std::num::wrapping_sub_u64;
 
 // A root's digits so far, and what is left of the number.
-pub struct Digits {
+struct Digits {
     pub root: u64,
     pub rest: u64,
 }
 
 // One digit more: the number grows by two of its digits.
-pub fn digit(root: u64, rest: u64, pair: u64) -> Digits
+fn digit(root: u64, rest: u64, pair: u64) -> Digits
     requires { ⌜ (root < 2 ^ 60) × (rest ≤ 2 * root) × (pair < 4) ⌝ }
     ensures { λ r. ⌜ IsRoot ((root * root + rest) * 4 + pair) (r .root) (r .rest) × (r .root ≤ 2 * root + 1) ⌝ }
 {
@@ -38,7 +38,7 @@ pub fn digit(root: u64, rest: u64, pair: u64) -> Digits
 }
 
 // So many digits of the root of x, which stands at the top of 64 bits with zeros after it.
-pub fn root_digits(x: u64, steps: u64) -> Digits
+fn root_digits(x: u64, steps: u64) -> Digits
     requires { ⌜ steps ≤ 60 ⌝ }
     ensures { λ r. ⌜ IsRoot (x * 2 ^ (steps + steps) / 2 ^ 64) (r .root) (r .rest) × (r .root < 2 ^ steps) ⌝ }
 {
@@ -57,7 +57,7 @@ pub fn root_digits(x: u64, steps: u64) -> Digits
 }
 
 // The root of m * 2 ^ (e % 2), of so many digits, rounded.
-pub fn rooted(mode: Rounding, m: u64, e: u64, steps: u64) -> Rounded
+fn rooted(mode: Rounding, m: u64, e: u64, steps: u64) -> Rounded
     requires { ⌜ (m < 2 ^ 53) × (steps ≤ 60) ⌝ }
     ensures { λ r. ⌜ IsRooted mode (m * 2 ^ (e % 2 + 10) * 2 ^ (steps + steps) / 2 ^ 64) steps (r .kept) (r .exact) ⌝ }
 {
@@ -67,7 +67,7 @@ pub fn rooted(mode: Rounding, m: u64, e: u64, steps: u64) -> Rounded
 }
 
 // The root of a single. A subnormal is moved up by its leading zeros.
-pub fn root32(mode: Rounding, b: u32) -> u32
+fn root32(mode: Rounding, b: u32) -> u32
     ensures { λ r. ⌜ r ≡ toBits binary32 (sqrtOf mode binary32 (ofBits binary32 b)) ⌝ }
 {
     let w = b as u64;
@@ -97,7 +97,7 @@ pub fn root32(mode: Rounding, b: u32) -> u32
 }
 
 // The root of a double.
-pub fn root64(mode: Rounding, b: u64) -> u64
+fn root64(mode: Rounding, b: u64) -> u64
     ensures { λ r. ⌜ r ≡ toBits binary64 (sqrtOf mode binary64 (ofBits binary64 b)) ⌝ }
 {
     let field = b % 0x8000_0000_0000_0000 / 0x10_0000_0000_0000;
@@ -127,7 +127,7 @@ pub fn root64(mode: Rounding, b: u64) -> u64
 
 // y is a normal value's 52 digits with the lowest bit of its exponent above them. The number whose root is looked for is 2 ^ 52 and the digits,
 // and twice that where the bit is 0, which leaves an even exponent.
-pub fn radicand(y: u64) -> u64
+fn radicand(y: u64) -> u64
     requires { ⌜ y < 2 ^ 53 ⌝ }
     ensures { λ r. ⌜ r ≡ radicand y ⌝ }
 {
@@ -140,7 +140,7 @@ pub fn radicand(y: u64) -> u64
 
 // The first 53 digits of the root, give or take one: a guess by the bits, two steps towards 1 / root and the root, and one of Heron's.
 // It is an estimate by native floats, and no contract says how near: who uses it checks it.
-pub fn estimate(y: u64) -> u64
+fn estimate(y: u64) -> u64
     requires { ⌜ y < 2 ^ 53 ⌝ }
     ensures { λ r. ⌜ (2 ^ 52 ≤ r) × (r < 2 ^ 53) ⌝ }
 {
@@ -154,14 +154,14 @@ pub fn estimate(y: u64) -> u64
     bits64(root + a / root) % 0x10_0000_0000_0000 + 0x10_0000_0000_0000
 }
 
-pub fn one_if(more: bool) -> u64
+fn one_if(more: bool) -> u64
     ensures { λ r. ⌜ (r ≡ cond more 1 0) × (r ≤ 1) ⌝ }
 {
     if more { 1 } else { 0 }
 }
 
 // The whole number nearest to the root of q * q + rest, where it is q or one of the next two. No branch: which of them it is follows no pattern.
-pub fn nearest_root(q: u64, rest: u64) -> u64
+fn nearest_root(q: u64, rest: u64) -> u64
     requires { ⌜ (q < 2 ^ 53) × (rest ≤ 5 * q + 6) ⌝ }
     ensures { λ r. ⌜ IsNearestRoot (q * q + rest) (q + 2) r ⌝ }
 {
@@ -169,7 +169,7 @@ pub fn nearest_root(q: u64, rest: u64) -> u64
 }
 
 // The root of 24 digits, rounded to nearest, or 0 where the estimate is too far off.
-pub fn nearest24(y: u64) -> u64
+fn nearest24(y: u64) -> u64
     requires { ⌜ y < 2 ^ 53 ⌝ }
     ensures { λ r. ⌜ IsNearestRoot (radicand y / 64) (2 ^ 24 + 1) r ⌝ }
 {
@@ -182,7 +182,7 @@ pub fn nearest24(y: u64) -> u64
 }
 
 // The same of 53 digits. What is left of the square is made in steps of 26 digits, each of which has to be small, so that none is cut.
-pub fn nearest53(y: u64) -> u64
+fn nearest53(y: u64) -> u64
     requires { ⌜ y < 2 ^ 53 ⌝ }
     ensures { λ r. ⌜ IsNearestRoot (radicand y * 2 ^ 52) (2 ^ 53 + 1) r ⌝ }
 {

@@ -7,7 +7,7 @@ use native.Mathlib.Nat.{le-trans, le-of-eq, le-refl, le-suc, le-antisymm, le-of-
 use native.Mathlib.Decide.{decLe, decLt}
 use native.Mathlib.Numerals.{add-one, one-add}
 use native.Mathlib.Omega.{arith}
-use lib.Dec.{T, eqb, eqb→eq, lit<}
+use lib.Dec.{T, eqb, eqb→eq, lit≤, lit<}
 use lib.Pow.{pow-add, pow-pos, pow-mono, shr-lt, shl-exact}
 use lib.Ieee.{nearest}
 use lib.Ieee.Fits.{nearest-le, eq→eqb}
@@ -160,6 +160,16 @@ rest-far m sh h = elim (shift-is sh) [
   where
     half : (m u : ℕ) → m * 2 < u → m < u
     half m u h = omega arith
+
+pub whole-far : (m sh : ℕ) → m < 2 ^ 62 → m / 2 ^ min sh 63 ≡ m / 2 ^ sh
+whole-far m sh h =
+    elim (shift-is sh) [
+      | inl l ↦ ap (λ (x : ℕ). m / 2 ^ x) (min-eq-left l)
+      | inr l ↦ ap (λ (x : ℕ). m / 2 ^ x) (min-eq-right l) ∙ none-left 63 (lit≤ tt) ∙ sym (none-left sh (le-trans (lit≤ tt) l))
+    ]
+  where
+    none-left : (w : ℕ) → 62 ≤ w → m / 2 ^ w ≡ 0
+    none-left w g = div-eq-of-lt (lt-of-lt-of-le h (pow-mono g))
 
 -- what is kept has few digits
 pub cut-few : (mode : Rounding) (s : Bool) (m p sh w : ℕ) → m < 2 ^ w → w ≤ p + sh → cutTo mode s m (2 ^ sh) ≤ 2 ^ p

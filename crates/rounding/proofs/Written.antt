@@ -3,22 +3,22 @@
 use mathlib.Core.Path.{_≡_, refl, sym, ap, _∙_, subst}
 use mathlib.Core.Logic.{_⊎_, inl, inr}
 use mathlib.Core.Bool.{Bool, true, false, not, _&&_, cond}
-use Prim.Native.Nat.{ℕ, suc, _+_, _-_, _*_, _/_, _%_, _^_, _≤_, _<_, compare}
-use native.Mathlib.Nat.{le-trans, le-of-eq, le-refl, le-of-lt, lt-of-le-of-lt, eq-or-lt-of-le, not-le-of-lt, lt-of-not-le, le-of-suc-le-suc, mul-assoc, mul-comm, mul-right-comm, suc-mul, mul-pos, mul-le-mul-right, mul-le-mul-left, lt-of-mul-lt-mul-right, le-of-mul-le-mul-right, mul-lt-mul-of-pos-left, div-div-eq-div-mul, pow-succ', min-eq-left, min-eq-right}
+use Prim.Native.Nat.{ℕ, suc, _+_, _-_, _*_, _/_, _%_, _^_, _≤_, _<_, zero}
+use native.Mathlib.Nat.{le-trans, le-of-eq, le-refl, lt-of-le-of-lt, eq-or-lt-of-le, not-le-of-lt, lt-of-not-le, le-of-suc-le-suc, mul-assoc, mul-comm, mul-right-comm, suc-mul, mul-pos, mul-le-mul-right, mul-le-mul-left, lt-of-mul-lt-mul-right, le-of-mul-le-mul-right, mul-lt-mul-of-pos-left, div-div-eq-div-mul, pow-succ', min-eq-left, min-eq-right, zero-mul, zero-lt-suc, div-lt-iff-lt-mul, div-le-self, div-one}
 use native.Mathlib.Decide.{decLt}
 use native.Mathlib.Omega.{arith}
-use lib.Dec.{T, ltb, eqb, eqb→eq, ltb→lt, nltb→le}
+use lib.Dec.{T, ltb, eqb, ltb→lt, nltb→le, leb}
 use lib.Pow.{pow-add, pow-pos, pow-mono, pow-lt}
-use borrow.Author.Tests.{lt-ltb, le-ltb}
+use borrow.Author.Tests.{lt-ltb, le-ltb, le-leb, lt-leb}
 use lib.Ieee.{inf, Format, binary32, binary64, prec, emax, low, hid, ones, top, round, odd, toBits}
 use lib.Ieee.Exact.{HasValue, odd-sign}
 use lib.Ieee.Nearest.{div-same}
-use Rattle.rounding.specs.Rounding.{cutTo, largest, beyond, limit, settled, dropped, rounded, exactly}
+use Rattle.rounding.specs.Rounding.{cutTo, largest, beyond, limit, settled, dropped, rounded, exact, over, tiny}
 use Rattle.rounding.specs.Pack.{ceiling, packed}
 use Rattle.rounding.specs.declared.rounding.Rounding.{Rounding}
 use Rattle.rounding.specs.declared.rounding.Rounding.the-variants.{Nearest, Up, Down, Zero}
 use Rattle.rounding.proofs.Units.{Lead, drop-is, writes, twice-hid, hid-pos}
-use Rattle.rounding.proofs.Cutting.{move-ge, move-le, cut-same, rest-same, cut-exact}
+use Rattle.rounding.proofs.Cutting.{move-ge, move-le, cut-same, rest-same}
 
 pred-le : (x : ℕ) → x - 1 ≤ x
 pred-le x = omega arith
@@ -182,82 +182,145 @@ settled-bits mode f s c k m l = go (ltb (c * 2 ^ k) lim) (ltb→lt (c * 2 ^ k) l
         (sym (min-eq-right (le-trans (ceiling-le mode f s)
         (subst (λ (x : ℕ). x ≤ k * hid f + c) (last-field f) (fits-over (ones f - 2) k (hid f) (2 ^ prec f) c (twice-hid f) (hid-pos f) l m (subst (λ (x : ℕ). x ≤ c * 2 ^ k) (limit-is f) (n tt)))))))
 
+-- ---- tests that agree
+
+same-ltb : (a b c d : ℕ) → (a < b → c < d) → (c < d → a < b) → ltb a b ≡ ltb c d
+same-ltb a b c d p q = go (decLt a b) (decLt c d)
+  where
+    go : Dec (a < b) → Dec (c < d) → ltb a b ≡ ltb c d
+    go (yes l) e = lt-ltb a b l ∙ sym (lt-ltb c d (p l))
+    go (no n) (yes l) = absurd (n (q l))
+    go (no n) (no m) = le-ltb a b (le-of-suc-le-suc (lt-of-not-le n)) ∙ sym (le-ltb c d (le-of-suc-le-suc (lt-of-not-le m)))
+
+same-leb : (a b c d : ℕ) → (b < a → d < c) → (a ≤ b → c ≤ d) → leb a b ≡ leb c d
+same-leb a b c d p q = go (decLt b a)
+  where
+    go : Dec (b < a) → leb a b ≡ leb c d
+    go (yes l) = lt-leb a b l ∙ sym (lt-leb c d (p l))
+    go (no n) = let l : a ≤ b = le-of-suc-le-suc (lt-of-not-le n) in le-leb a b l ∙ sym (le-leb c d (q l))
+
+factor-pos : (a b : ℕ) → 0 < a * b → 0 < a
+factor-pos zero b h = absurd (not-le-of-lt h (le-of-eq (zero-mul b)))
+factor-pos (suc a) b h = zero-lt-suc a
+
+-- a pattern is too large where its value is
+over-pattern : (f : Format) (k c : ℕ) → c ≤ 2 ^ prec f → Lead f k c → leb (limit f) (c * 2 ^ k) ≡ leb (ones f * hid f) (k * hid f + c)
+over-pattern f k c m l =
+    same-leb (limit f) (c * 2 ^ k) (ones f * hid f) (k * hid f + c)
+    (λ (h : c * 2 ^ k < limit f). subst (λ (x : ℕ). k * hid f + c < x) (last-field f) (fits-under (ones f - 2) k (hid f) (2 ^ prec f) c (twice-hid f) (hid-pos f) l m (subst (λ (x : ℕ). c * 2 ^ k < x) (limit-is f) h)))
+    (λ (h : limit f ≤ c * 2 ^ k). subst (λ (x : ℕ). x ≤ k * hid f + c) (last-field f) (fits-over (ones f - 2) k (hid f) (2 ^ prec f) c (twice-hid f) (hid-pos f) l m (subst (λ (x : ℕ). x ≤ c * 2 ^ k) (limit-is f) h)))
+
 -- ---- a fraction num / den whose size in the format's smallest values is m / u, times 2 ^ k
 
-pub rounded-bits : (mode : Rounding) (f : Format) (s : Bool) (num den k m u : ℕ) → 0 < den → 0 < u → num * 2 ^ low f * u ≡ m * (den * 2 ^ k)
-    → m / u < 2 ^ prec f → Lead f k (m / u)
-    → toBits f (rounded mode f s num den) ≡ packed mode f s k (cutTo mode s m u)
-unfolding rounded
-rounded-bits mode f s num den k m u D U e small lead =
-    let n = num * 2 ^ low f in
-    let DK : 0 < den * 2 ^ k = mul-pos D (pow-pos k) in
-    let q : n / den / 2 ^ k ≡ m / u = div-div-eq-div-mul n den (2 ^ k) ∙ div-same n (den * 2 ^ k) m u DK U e in
-    let d : dropped f (n / den) ≡ k = drop-is f (n / den) k (subst (λ (x : ℕ). x < 2 ^ prec f) (sym q) small) (subst (λ (x : ℕ). Lead f k x) (sym q) lead) in
-    let o = compare (m % u * 2) u in
-    let x = eqb (m % u) 0 in
-    ap (λ (x : ℕ). toBits f (settled mode f s (cutTo mode s n (den * 2 ^ x)) x)) d
-    ∙ ap (λ (x : ℕ). toBits f (settled mode f s x k)) (cut-same mode s n (den * 2 ^ k) m u DK U e)
-    ∙ settled-bits mode f s (cutTo mode s m u) k (le-trans (move-le mode s (m / u) o x) small) (elim lead [ inl z ↦ inl z | inr h ↦ inr (le-trans h (move-ge mode s (m / u) o x)) ])
+module _ (mode : Rounding) (f : Format) (s : Bool) (num den k m u : ℕ) (D : 0 < den) (U : 0 < u) (e : num * 2 ^ low f * u ≡ m * (den * 2 ^ k)) (small : m / u < 2 ^ prec f) (lead : Lead f k (m / u)) where
+  abbrev n : ℕ
+  n = num * 2 ^ low f
+
+  DK : 0 < den * 2 ^ k
+  DK = mul-pos D (pow-pos k)
+
+  whole : n / den / 2 ^ k ≡ m / u
+  whole = div-div-eq-div-mul n den (2 ^ k) ∙ div-same n (den * 2 ^ k) m u DK U e
+
+  drop : dropped f (n / den) ≡ k
+  drop = drop-is f (n / den) k (subst (λ (x : ℕ). x < 2 ^ prec f) (sym whole) small) (subst (λ (x : ℕ). Lead f k x) (sym whole) lead)
+
+  few : cutTo mode s m u ≤ 2 ^ prec f
+  few = le-trans (move-le mode s (m / u) _ _) small
+
+  leads : Lead f k (cutTo mode s m u)
+  leads = elim lead [ inl z ↦ inl z | inr h ↦ inr (le-trans h (move-ge mode s (m / u) _ _)) ]
+
+  pub rounded-bits : toBits f (rounded mode f s num den) ≡ packed mode f s k (cutTo mode s m u)
+  unfolding rounded
+  rounded-bits =
+      ap (λ (x : ℕ). toBits f (settled mode f s (cutTo mode s n (den * 2 ^ x)) x)) drop
+      ∙ ap (λ (x : ℕ). toBits f (settled mode f s x k)) (cut-same mode s n (den * 2 ^ k) m u DK U e)
+      ∙ settled-bits mode f s (cutTo mode s m u) k few leads
+
+  pub exact-is : exact f num den ≡ eqb (m % u) 0
+  unfolding exact
+  exact-is = ap (λ (x : ℕ). eqb (n % (den * 2 ^ x)) 0) drop ∙ rest-same n (den * 2 ^ k) m u DK U e
+
+  pub over-is : over mode f s num den ≡ leb (ones f * hid f) (k * hid f + cutTo mode s m u)
+  unfolding over
+  over-is =
+      ap (λ (x : ℕ). leb (limit f) (cutTo mode s n (den * 2 ^ x) * 2 ^ x)) drop
+      ∙ ap (λ (x : ℕ). leb (limit f) (x * 2 ^ k)) (cut-same mode s n (den * 2 ^ k) m u DK U e)
+      ∙ over-pattern f k (cutTo mode s m u) few leads
+
+  pub tiny-is : tiny f num den ≡ (ltb 0 m && ltb (m / u) (hid f))
+  unfolding tiny
+  tiny-is = ap (λ (t : Bool). t && ltb n (hid f * den)) some ∙ ap (λ (t : Bool). ltb 0 m && t) below
+    where
+      some : ltb 0 num ≡ ltb 0 m
+      some =
+          same-ltb 0 num 0 m
+          (λ (h : 0 < num). factor-pos m (den * 2 ^ k) (subst (λ (x : ℕ). 0 < x) e (mul-pos (mul-pos h (pow-pos (low f))) U)))
+          (λ (h : 0 < m). factor-pos num (2 ^ low f) (factor-pos (num * 2 ^ low f) u (subst (λ (x : ℕ). 0 < x) (sym e) (mul-pos h DK))))
+
+      back : Lead f k (m / u) → m / u < hid f → n / den < hid f
+      back (inl z) h = subst (λ (x : ℕ). x < hid f) (sym whole ∙ ap (λ (x : ℕ). n / den / 2 ^ x) z ∙ div-one (n / den)) h
+      back (inr g) h = absurd (not-le-of-lt h g)
+
+      below : ltb n (hid f * den) ≡ ltb (m / u) (hid f)
+      below =
+          same-ltb n (hid f * den) (m / u) (hid f)
+          (λ (h : n < hid f * den). lt-of-le-of-lt (le-trans (le-of-eq (sym whole)) (div-le-self (n / den) (2 ^ k))) (div-lt-iff-lt-mul D .1 h))
+          (λ (h : m / u < hid f). div-lt-iff-lt-mul D .0 (back lead h))
 
 -- at `Nearest` it is the logic's own rounding
 pub rounded-nearest : (f : Format) (s : Bool) (num den : ℕ) → rounded Nearest f s num den ≡ round f s num den
 unfolding rounded round
 rounded-nearest f s num den = refl
 
--- whether it was exact: nothing is left, and the pattern is a finite value's
-same-ltb : (a b c d : ℕ) → (a < b → c < d) → (b ≤ a → d ≤ c) → ltb a b ≡ ltb c d
-same-ltb a b c d p q = go (decLt a b)
-  where
-    go : Dec (a < b) → ltb a b ≡ ltb c d
-    go (yes l) = lt-ltb a b l ∙ sym (lt-ltb c d (p l))
-    go (no n) = let l : b ≤ a = le-of-suc-le-suc (lt-of-not-le n) in le-ltb a b l ∙ sym (le-ltb c d (q l))
-
-finite-is : (f : Format) (k c : ℕ) → c ≤ 2 ^ prec f → Lead f k c → ltb (c * 2 ^ k) (limit f) ≡ ltb (k * hid f + c) (ones f * hid f)
-finite-is f k c m l =
-    same-ltb (c * 2 ^ k) (limit f) (k * hid f + c) (ones f * hid f)
-    (λ (h : c * 2 ^ k < limit f). subst (λ (x : ℕ). k * hid f + c < x) (last-field f) (fits-under (ones f - 2) k (hid f) (2 ^ prec f) c (twice-hid f) (hid-pos f) l m (subst (λ (x : ℕ). c * 2 ^ k < x) (limit-is f) h)))
-    (λ (h : limit f ≤ c * 2 ^ k). subst (λ (x : ℕ). x ≤ k * hid f + c) (last-field f) (fits-over (ones f - 2) k (hid f) (2 ^ prec f) c (twice-hid f) (hid-pos f) l m (subst (λ (x : ℕ). x ≤ c * 2 ^ k) (limit-is f) h)))
-
-pub exactly-is : (mode : Rounding) (f : Format) (s : Bool) (num den k m u : ℕ) → 0 < den → 0 < u → num * 2 ^ low f * u ≡ m * (den * 2 ^ k)
-    → m / u < 2 ^ prec f → Lead f k (m / u)
-    → exactly f num den ≡ (eqb (m % u) 0 && ltb (k * hid f + cutTo mode s m u) (ones f * hid f))
-unfolding exactly
-exactly-is mode f s num den k m u D U e small lead =
-    let n = num * 2 ^ low f in
-    let DK : 0 < den * 2 ^ k = mul-pos D (pow-pos k) in
-    let q : n / den / 2 ^ k ≡ m / u = div-div-eq-div-mul n den (2 ^ k) ∙ div-same n (den * 2 ^ k) m u DK U e in
-    let d : dropped f (n / den) ≡ k = drop-is f (n / den) k (subst (λ (x : ℕ). x < 2 ^ prec f) (sym q) small) (subst (λ (x : ℕ). Lead f k x) (sym q) lead) in
-    ap (λ (x : ℕ). eqb (n % (den * 2 ^ x)) 0 && ltb (n / (den * 2 ^ x) * 2 ^ x) (limit f)) d
-    ∙ ap (λ (t : Bool). t && ltb (n / (den * 2 ^ k) * 2 ^ k) (limit f)) (rest-same n (den * 2 ^ k) m u DK U e)
-    ∙ ap (λ (x : ℕ). eqb (m % u) 0 && ltb (x * 2 ^ k) (limit f)) (div-same n (den * 2 ^ k) m u DK U e)
-    ∙ ap (λ (t : Bool). eqb (m % u) 0 && t) (finite-is f k (m / u) (le-of-lt small) lead)
-    ∙ go (eqb (m % u) 0) (eqb→eq (m % u) 0)
-  where
-    go : (t : Bool) → (T t → m % u ≡ 0) → (t && ltb (k * hid f + m / u) (ones f * hid f)) ≡ (t && ltb (k * hid f + cutTo mode s m u) (ones f * hid f))
-    go true z = ap (λ (c : ℕ). ltb (k * hid f + c) (ones f * hid f)) (sym (cut-exact mode s m u U (z tt)))
-    go false z = refl
-
-pub exactly-same : (f : Format) (a b c d : ℕ) → 0 < b → 0 < d → a * d ≡ c * b → exactly f a b ≡ exactly f c d
-unfolding exactly
-exactly-same f a b c d B D e =
-    let l = 2 ^ low f in
-    let x : a * l * d ≡ c * l * b = mul-right-comm a l d ∙ ap (λ (z : ℕ). z * l) e ∙ mul-right-comm c b l in
-    let j = dropped f (c * l / d) in
-    let y : a * l * (d * 2 ^ j) ≡ c * l * (b * 2 ^ j) = sym (mul-assoc (a * l) d (2 ^ j)) ∙ ap (λ (z : ℕ). z * 2 ^ j) x ∙ mul-assoc (c * l) b (2 ^ j) in
-    ap (λ (z : ℕ). eqb (a * l % (b * 2 ^ z)) 0 && ltb (a * l / (b * 2 ^ z) * 2 ^ z) (limit f)) (ap (dropped f) (div-same (a * l) b (c * l) d B D x))
-    ∙ ap (λ (t : Bool). t && ltb (a * l / (b * 2 ^ j) * 2 ^ j) (limit f)) (rest-same (a * l) (b * 2 ^ j) (c * l) (d * 2 ^ j) (mul-pos B (pow-pos j)) (mul-pos D (pow-pos j)) y)
-    ∙ ap (λ (z : ℕ). eqb (c * l % (d * 2 ^ j)) 0 && ltb (z * 2 ^ j) (limit f)) (div-same (a * l) (b * 2 ^ j) (c * l) (d * 2 ^ j) (mul-pos B (pow-pos j)) (mul-pos D (pow-pos j)) y)
-
 -- ---- equal fractions round alike
 
-pub rounded-same : (mode : Rounding) (f : Format) (s : Bool) (a b c d : ℕ) → 0 < b → 0 < d → a * d ≡ c * b → rounded mode f s a b ≡ rounded mode f s c d
-unfolding rounded
-rounded-same mode f s a b c d B D e =
-    let l = 2 ^ low f in
-    let x : a * l * d ≡ c * l * b = mul-right-comm a l d ∙ ap (λ (z : ℕ). z * l) e ∙ mul-right-comm c b l in
-    let k : dropped f (a * l / b) ≡ dropped f (c * l / d) = ap (dropped f) (div-same (a * l) b (c * l) d B D x) in
-    let j = dropped f (c * l / d) in
-    ap (λ (z : ℕ). settled mode f s (cutTo mode s (a * l) (b * 2 ^ z)) z) k
-    ∙ ap (λ (z : ℕ). settled mode f s z j)
-    (cut-same mode s (a * l) (b * 2 ^ j) (c * l) (d * 2 ^ j) (mul-pos B (pow-pos j)) (mul-pos D (pow-pos j))
-    (sym (mul-assoc (a * l) d (2 ^ j)) ∙ ap (λ (z : ℕ). z * 2 ^ j) x ∙ mul-assoc (c * l) b (2 ^ j)))
+module _ (mode : Rounding) (f : Format) (s : Bool) (a b c d : ℕ) (B : 0 < b) (D : 0 < d) (e : a * d ≡ c * b) where
+  abbrev l : ℕ
+  l = 2 ^ low f
+
+  abbrev j : ℕ
+  j = dropped f (c * l / d)
+
+  scaled : a * l * d ≡ c * l * b
+  scaled = mul-right-comm a l d ∙ ap (λ (z : ℕ). z * l) e ∙ mul-right-comm c b l
+
+  same-whole : a * l / b ≡ c * l / d
+  same-whole = div-same (a * l) b (c * l) d B D scaled
+
+  same-drop : dropped f (a * l / b) ≡ j
+  same-drop = ap (dropped f) same-whole
+
+  cut-down : a * l * (d * 2 ^ j) ≡ c * l * (b * 2 ^ j)
+  cut-down = sym (mul-assoc (a * l) d (2 ^ j)) ∙ ap (λ (z : ℕ). z * 2 ^ j) scaled ∙ mul-assoc (c * l) b (2 ^ j)
+
+  same-cut : cutTo mode s (a * l) (b * 2 ^ j) ≡ cutTo mode s (c * l) (d * 2 ^ j)
+  same-cut = cut-same mode s (a * l) (b * 2 ^ j) (c * l) (d * 2 ^ j) (mul-pos B (pow-pos j)) (mul-pos D (pow-pos j)) cut-down
+
+  pub rounded-same : rounded mode f s a b ≡ rounded mode f s c d
+  unfolding rounded
+  rounded-same = ap (λ (z : ℕ). settled mode f s (cutTo mode s (a * l) (b * 2 ^ z)) z) same-drop ∙ ap (λ (z : ℕ). settled mode f s z j) same-cut
+
+  pub exact-same : exact f a b ≡ exact f c d
+  unfolding exact
+  exact-same = ap (λ (z : ℕ). eqb (a * l % (b * 2 ^ z)) 0) same-drop ∙ rest-same (a * l) (b * 2 ^ j) (c * l) (d * 2 ^ j) (mul-pos B (pow-pos j)) (mul-pos D (pow-pos j)) cut-down
+
+  pub over-same : over mode f s a b ≡ over mode f s c d
+  unfolding over
+  over-same = ap (λ (z : ℕ). leb (limit f) (cutTo mode s (a * l) (b * 2 ^ z) * 2 ^ z)) same-drop ∙ ap (λ (z : ℕ). leb (limit f) (z * 2 ^ j)) same-cut
+
+  pub tiny-same : tiny f a b ≡ tiny f c d
+  unfolding tiny
+  tiny-same = ap (λ (t : Bool). t && ltb (a * l) (hid f * b)) some ∙ ap (λ (t : Bool). ltb 0 c && t) below
+    where
+      some : ltb 0 a ≡ ltb 0 c
+      some =
+          same-ltb 0 a 0 c (λ (h : 0 < a). factor-pos c b (subst (λ (x : ℕ). 0 < x) e (mul-pos h D)))
+          (λ (h : 0 < c). factor-pos a d (subst (λ (x : ℕ). 0 < x) (sym e) (mul-pos h B)))
+
+      below : ltb (a * l) (hid f * b) ≡ ltb (c * l) (hid f * d)
+      below =
+          same-ltb (a * l) (hid f * b) (c * l) (hid f * d)
+          (λ (h : a * l < hid f * b). div-lt-iff-lt-mul D .0 (subst (λ (x : ℕ). x < hid f) same-whole (div-lt-iff-lt-mul B .1 h)))
+          (λ (h : c * l < hid f * d). div-lt-iff-lt-mul B .0 (subst (λ (x : ℕ). x < hid f) (sym same-whole) (div-lt-iff-lt-mul D .1 h)))

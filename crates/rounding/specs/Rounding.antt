@@ -3,8 +3,8 @@
 use Prim.Native.Nat.{ℕ, suc, _+_, _-_, _*_, _/_, _%_, _^_, _≤_, _<_, compare, Ordering}
 use mathlib.Core.Path.{_≡_}
 use mathlib.Core.Bool.{Bool, true, false, not, _&&_, cond, _||_}
-use lib.Dec.{ltb, eqb}
-use lib.Ieee.{Float, inf, Format, prec, emax, low, ones, size, odd, nearest}
+use lib.Dec.{leb, ltb, eqb}
+use lib.Ieee.{Float, inf, Format, prec, emax, low, hid, ones, size, odd, nearest}
 use Rattle.rounding.specs.declared.rounding.Rounding.{Rounding}
 use Rattle.rounding.specs.declared.rounding.Rounding.the-variants.{Nearest, Up, Down, Zero}
 
@@ -55,12 +55,23 @@ rounded mode f s num den =
     let k = dropped f (n / den) in
     settled mode f s (cutTo mode s n (den * 2 ^ k)) k
 
--- whether num / den is itself a value of the format: nothing that is dropped is left, and it is not too large
-unfoldable pub exactly : Format → ℕ → ℕ → Bool
-exactly f num den =
+-- exact: nothing that is dropped is left. Of what is too large it says nothing.
+unfoldable pub exact : Format → ℕ → ℕ → Bool
+exact f num den =
     let n = num * 2 ^ low f in
     let k = dropped f (n / den) in
-    eqb (n % (den * 2 ^ k)) 0 && ltb (n / (den * 2 ^ k) * 2 ^ k) (limit f)
+    eqb (n % (den * 2 ^ k)) 0
+
+-- overflow: rounded as if exponents had no bound, it is beyond the largest finite value
+unfoldable pub over : Rounding → Format → Bool → ℕ → ℕ → Bool
+over mode f s num den =
+    let n = num * 2 ^ low f in
+    let k = dropped f (n / den) in
+    leb (limit f) (cutTo mode s n (den * 2 ^ k) * 2 ^ k)
+
+-- tiny: before rounding it is not 0 and smaller than the least normal value, which is `hid` smallest values
+unfoldable pub tiny : Format → ℕ → ℕ → Bool
+tiny f num den = ltb 0 num && ltb (num * 2 ^ low f) (hid f * den)
 
 -- ---- what the code's stages give
 

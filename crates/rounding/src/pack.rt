@@ -1,28 +1,34 @@
 // Packing: a rounded size as a format's pattern, the last stage of every operation that is not a float's own.
 ghost use mathlib.Core.Path.{_≡_};
 ghost use mathlib.Core.Logic.{_⊎_};
-ghost use mathlib.Core.Bool.{cond};
-ghost use Prim.Native.Nat.{_*_, _≤_, _<_, _^_};
+ghost use mathlib.Core.Bool.{_&&_, cond};
+ghost use Prim.Native.Nat.{_*_, _/_, _≤_, _<_, _^_};
+ghost use lib.Dec.{ltb};
 ghost use lib.Ieee.{binary32, binary64};
 ghost use Rattle.rounding.specs.Pack.{ceiling, IsPacked, IsSettled};
 use super::rounding::Rounding;
 use super::rounding::cut;
 use super::rounding::least;
 
-// A single's word, and whether it is what was rounded.
+// What was rounded, as a single's word; whether nothing was dropped; whether, rounded as if exponents had no bound, it is beyond the
+// largest finite value; whether, before rounding, it is not 0 and smaller than the least normal value.
 pub struct Settled32 {
     pub bits: u32,
     pub exact: bool,
+    pub over: bool,
+    pub tiny: bool,
 }
 
-// A double's bits, and whether they are what was rounded.
+// The same as a double's bits.
 pub struct Settled64 {
     pub bits: u64,
     pub exact: bool,
+    pub over: bool,
+    pub tiny: bool,
 }
 
 // The last pattern of a single that a mode gives, without the sign.
-pub fn ceiling32(mode: Rounding, negative: bool) -> u64
+fn ceiling32(mode: Rounding, negative: bool) -> u64
     ensures { λ r. ⌜ r ≡ ceiling mode binary32 negative ⌝ }
 {
     match mode {
@@ -33,7 +39,7 @@ pub fn ceiling32(mode: Rounding, negative: bool) -> u64
     }
 }
 
-pub fn ceiling64(mode: Rounding, negative: bool) -> u64
+fn ceiling64(mode: Rounding, negative: bool) -> u64
     ensures { λ r. ⌜ r ≡ ceiling mode binary64 negative ⌝ }
 {
     match mode {
@@ -62,43 +68,55 @@ pub fn sign32(negative: bool) -> u64
     if negative { 0x8000_0000 } else { 0 }
 }
 
-pub fn sign64(negative: bool) -> u64
+fn sign64(negative: bool) -> u64
     ensures { λ r. ⌜ r ≡ cond negative 0x8000_0000_0000_0000 0 ⌝ }
 {
     if negative { 0x8000_0000_0000_0000 } else { 0 }
 }
 
+// Whether m / 2 ^ shift is not 0 and below a whole number.
+fn is_below(m: u64, shift: u64, end: u64) -> bool
+    requires { ⌜ shift < 64 ⌝ }
+    ensures { λ r. ⌜ r ≡ (ltb 0 m && ltb (m / 2 ^ shift) end) ⌝ }
+{
+    (0 < m) & (m >> shift < end)
+}
+
 // m / 2 ^ shift * 2 ^ k of the smallest values, rounded.
-pub fn pack32(mode: Rounding, negative: bool, k: u64, m: u64, shift: u64) -> Settled32
+fn pack32(mode: Rounding, negative: bool, k: u64, m: u64, shift: u64) -> Settled32
     requires { ⌜ (m < 2 ^ 62) × (38 ≤ shift) × (shift < 64) × (k < 4000) ⌝ }
-    ensures { λ r. ⌜ IsPacked mode binary32 negative k m (2 ^ shift) (r .bits) (r .exact) ⌝ }
+    ensures { λ r. ⌜ IsPacked mode binary32 negative k m (2 ^ shift) (r .bits) (r .exact) (r .over) (r .tiny) ⌝ }
 {
     let c = cut(mode, negative, m, shift);
     let size = k * 0x80_0000 + c.kept;
     let most = ceiling32(mode, negative);
     Settled32 {
         bits: (sign32(negative) + least(size, most)) as u32,
-        exact: c.exact & (size < 0x7F80_0000),
+        exact: c.exact,
+        over: size >= 0x7F80_0000,
+        tiny: is_below(m, shift, 0x80_0000),
     }
 }
 
-pub fn pack64(mode: Rounding, negative: bool, k: u64, m: u64, shift: u64) -> Settled64
+fn pack64(mode: Rounding, negative: bool, k: u64, m: u64, shift: u64) -> Settled64
     requires { ⌜ (m < 2 ^ 62) × (9 ≤ shift) × (shift < 64) × (k < 4000) ⌝ }
-    ensures { λ r. ⌜ IsPacked mode binary64 negative k m (2 ^ shift) (r .bits) (r .exact) ⌝ }
+    ensures { λ r. ⌜ IsPacked mode binary64 negative k m (2 ^ shift) (r .bits) (r .exact) (r .over) (r .tiny) ⌝ }
 {
     let c = cut(mode, negative, m, shift);
     let size = k * 0x10_0000_0000_0000 + c.kept;
     let most = ceiling64(mode, negative);
     Settled64 {
         bits: sign64(negative) + least(size, most),
-        exact: c.exact & (size < 0x7FF0_0000_0000_0000),
+        exact: c.exact,
+        over: size >= 0x7FF0_0000_0000_0000,
+        tiny: is_below(m, shift, 0x10_0000_0000_0000),
     }
 }
 
 // m * 2 ^ e / 2 ^ 2209 as a single, rounded. It drops 38 of 62 digits, and more below the smallest normal value.
 pub fn settle32(mode: Rounding, negative: bool, m: u64, e: u64) -> Settled32
     requires { ⌜ (m < 2 ^ 62) × (e < 4500) × ((e < 2022) ⊎ (2 ^ 61 ≤ m)) ⌝ }
-    ensures { λ r. ⌜ IsSettled mode binary32 negative (m * 2 ^ e) (2 ^ 2209) (r .bits) (r .exact) ⌝ }
+    ensures { λ r. ⌜ IsSettled mode binary32 negative (m * 2 ^ e) (2 ^ 2209) (r .bits) (r .exact) (r .over) (r .tiny) ⌝ }
 {
     if e < 2022 {
         return pack32(mode, negative, 0, m, least(2060 - e, 63));
@@ -109,7 +127,7 @@ pub fn settle32(mode: Rounding, negative: bool, m: u64, e: u64) -> Settled32
 // The same as a double, of which 9 digits are dropped.
 pub fn settle64(mode: Rounding, negative: bool, m: u64, e: u64) -> Settled64
     requires { ⌜ (m < 2 ^ 62) × (e < 4500) × ((e < 1126) ⊎ (2 ^ 61 ≤ m)) ⌝ }
-    ensures { λ r. ⌜ IsSettled mode binary64 negative (m * 2 ^ e) (2 ^ 2209) (r .bits) (r .exact) ⌝ }
+    ensures { λ r. ⌜ IsSettled mode binary64 negative (m * 2 ^ e) (2 ^ 2209) (r .bits) (r .exact) (r .over) (r .tiny) ⌝ }
 {
     if e < 1126 {
         return pack64(mode, negative, 0, m, least(1135 - e, 63));

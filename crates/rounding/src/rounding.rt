@@ -35,7 +35,7 @@ pub struct Rounded {
 }
 
 // 2 ^ shift.
-pub fn power(shift: u64) -> u64
+fn power(shift: u64) -> u64
     requires { ⌜ shift < 64 ⌝ }
     ensures { λ r. ⌜ r ≡ 2 ^ shift ⌝ }
 {
@@ -49,7 +49,7 @@ pub fn least(a: u64, b: u64) -> u64
 }
 
 // q, or the next number, for a size of q and rest / unit.
-pub fn moved(mode: Rounding, negative: bool, q: u64, rest: u64, unit: u64) -> u64
+fn moved(mode: Rounding, negative: bool, q: u64, rest: u64, unit: u64) -> u64
     requires { ⌜ (q < 2 ^ 63) × (rest < unit) ⌝ }
     ensures { λ r. ⌜ r ≡ move mode negative q (compare (rest * 2) unit) (eqb rest 0) ⌝ }
 {
@@ -84,7 +84,7 @@ pub fn step(mode: Rounding, negative: bool, q: u64, rest: u64, unit: u64) -> Rou
 }
 
 // What is added to m for its quotient by u, which is even, to be rounded by the mode: it carries where that is the next number.
-pub fn lead_in(mode: Rounding, negative: bool, m: u64, u: u64) -> u64
+fn lead_in(mode: Rounding, negative: bool, m: u64, u: u64) -> u64
     requires { ⌜ 2 ≤ u ⌝ }
     ensures { λ r. ⌜ r ≡ leadIn mode negative m u ⌝ }
 {

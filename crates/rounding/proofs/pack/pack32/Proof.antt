@@ -30,8 +30,11 @@ add-t11 c = omega (arith, pack-fits (c .before .before .before .before .before .
 cast-t12 : tie.Need-cast-t12
 cast-t12 c = omega (arith, pack-fits (c .before .before .before .before .before .args .mode) binary32 (c .before .before .before .before .before .args .negative) _ _ _ _ (c .before .sign32 .ensures) (c .before .before .ceiling32 .ensures) (c .least .ensures))
 
+is-below-requires : tie.Need-is-below-requires
+is-below-requires c κs = search needs
+
 returns : tie.Need-returns
-returns c = pack-is (c .before .before .before .before .before .before .args .mode) binary32 (c .before .before .before .before .before .before .args .negative) (c .before .before .before .before .before .before .args .k) (c .before .before .before .before .before .before .args .m) _ _ _ _ _ _ (c .before .before .before .before .before .cut .ensures) (c .before .before .sign32 .ensures) (c .before .before .before .ceiling32 .ensures) (c .before .least .ensures)
+returns c = pack-is (c .before .before .before .before .before .before .args .mode) binary32 (c .before .before .before .before .before .before .args .negative) (c .before .before .before .before .before .before .args .k) (c .before .before .before .before .before .before .args .m) _ _ _ _ _ _ _ (c .before .before .before .before .before .cut .ensures) (c .before .before .sign32 .ensures) (c .before .before .before .ceiling32 .ensures) (c .before .least .ensures) (c .is-below .ensures)
 
 pub pack32-spec : {M : Type 1} → statement M
 pack32-spec =
@@ -45,4 +48,5 @@ pack32-spec =
     least-requires
     add-t11
     cast-t12
+    is-below-requires
     returns)

@@ -27,8 +27,11 @@ least-requires c κs = search needs
 add-t11 : tie.Need-add-t11
 add-t11 c = omega (arith, pack-fits (c .before .before .before .before .before .args .mode) binary64 (c .before .before .before .before .before .args .negative) _ _ _ _ (c .before .sign64 .ensures) (c .before .before .ceiling64 .ensures) (c .least .ensures))
 
+is-below-requires : tie.Need-is-below-requires
+is-below-requires c κs = search needs
+
 returns : tie.Need-returns
-returns c = pack-is (c .before .before .before .before .before .before .args .mode) binary64 (c .before .before .before .before .before .before .args .negative) (c .before .before .before .before .before .before .args .k) (c .before .before .before .before .before .before .args .m) _ _ _ _ _ _ (c .before .before .before .before .before .cut .ensures) (c .before .before .sign64 .ensures) (c .before .before .before .ceiling64 .ensures) (c .before .least .ensures)
+returns c = pack-is (c .before .before .before .before .before .before .args .mode) binary64 (c .before .before .before .before .before .before .args .negative) (c .before .before .before .before .before .before .args .k) (c .before .before .before .before .before .before .args .m) _ _ _ _ _ _ _ (c .before .before .before .before .before .cut .ensures) (c .before .before .sign64 .ensures) (c .before .before .before .ceiling64 .ensures) (c .before .least .ensures) (c .is-below .ensures)
 
 pub pack64-spec : {M : Type 1} → statement M
 pack64-spec =
@@ -41,4 +44,5 @@ pack64-spec =
     sign64-requires
     least-requires
     add-t11
+    is-below-requires
     returns)

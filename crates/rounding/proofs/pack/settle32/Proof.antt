@@ -14,13 +14,13 @@ pack32-requires : tie.Need-pack32-requires
 pack32-requires c κs = search needs
 
 returns : tie.Need-returns
-returns c = settle-low (c .before .before .before .args .mode) binary32 (c .before .before .before .args .negative) (c .before .before .before .args .m) (c .before .before .before .args .e) _ _ _ (c .before .before .before .pre .0) (c .before .before .if1 .taken) (c .before .least .ensures) (c .pack32 .ensures)
+returns c = settle-low (c .before .before .before .args .mode) binary32 (c .before .before .before .args .negative) (c .before .before .before .args .m) (c .before .before .before .args .e) _ _ _ _ _ (c .before .before .before .pre .0) (c .before .before .if1 .taken) (c .before .least .ensures) (c .pack32 .ensures)
 
 pack32-requires-2 : tie.Need-pack32-requires-2
 pack32-requires-2 c κs = search needs
 
 returns-2 : tie.Need-returns-2
-returns-2 c = settle-high (c .before .before .args .mode) binary32 (c .before .before .args .negative) (c .before .before .args .m) (c .before .before .args .e) _ _ (c .before .before .pre .0) (c .before .if1 .left) (c .before .before .pre .2) (c .pack322 .ensures)
+returns-2 c = settle-high (c .before .before .args .mode) binary32 (c .before .before .args .negative) (c .before .before .args .m) (c .before .before .args .e) _ _ _ _ (c .before .before .pre .0) (c .before .if1 .left) (c .before .before .pre .2) (c .pack322 .ensures)
 
 pub settle32-spec : {M : Type 1} → statement M
 settle32-spec =

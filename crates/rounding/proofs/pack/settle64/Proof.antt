@@ -14,13 +14,13 @@ pack64-requires : tie.Need-pack64-requires
 pack64-requires c κs = search needs
 
 returns : tie.Need-returns
-returns c = settle-low (c .before .before .before .args .mode) binary64 (c .before .before .before .args .negative) (c .before .before .before .args .m) (c .before .before .before .args .e) _ _ _ (c .before .before .before .pre .0) (c .before .before .if1 .taken) (c .before .least .ensures) (c .pack64 .ensures)
+returns c = settle-low (c .before .before .before .args .mode) binary64 (c .before .before .before .args .negative) (c .before .before .before .args .m) (c .before .before .before .args .e) _ _ _ _ _ (c .before .before .before .pre .0) (c .before .before .if1 .taken) (c .before .least .ensures) (c .pack64 .ensures)
 
 pack64-requires-2 : tie.Need-pack64-requires-2
 pack64-requires-2 c κs = search needs
 
 returns-2 : tie.Need-returns-2
-returns-2 c = settle-high (c .before .before .args .mode) binary64 (c .before .before .args .negative) (c .before .before .args .m) (c .before .before .args .e) _ _ (c .before .before .pre .0) (c .before .if1 .left) (c .before .before .pre .2) (c .pack642 .ensures)
+returns-2 c = settle-high (c .before .before .args .mode) binary64 (c .before .before .args .negative) (c .before .before .args .m) (c .before .before .args .e) _ _ _ _ (c .before .before .pre .0) (c .before .if1 .left) (c .before .before .pre .2) (c .pack642 .ensures)
 
 pub settle64-spec : {M : Type 1} → statement M
 settle64-spec =
