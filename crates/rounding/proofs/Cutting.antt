@@ -13,7 +13,7 @@ use lib.Ieee.{nearest}
 use lib.Ieee.Fits.{nearest-le, eq→eqb}
 use lib.Ieee.Nearest.{nearest-ge, div-same}
 use borrow.Author.Tests.{eq-eqb, ne-eqb}
-use Rattle.rounding.specs.Rounding.{roundingOf, move, cutTo, leadIn, IsCut}
+use Rattle.rounding.specs.Rounding.{roundingOf, move, cutTo, increment, IsCut}
 use Rattle.rounding.specs.declared.rounding.Rounding.{Rounding}
 use Rattle.rounding.specs.declared.rounding.Rounding.the-variants.{Nearest, Up, Down, Zero}
 use Rattle.rounding.proofs.Order.{Cmp, cmp, compare-scale, compare-is}
@@ -257,16 +257,16 @@ module _ (m u : ℕ) (U : 0 < u) where
       sums : (p : ℕ) → p + m % u ≡ m → m % u < u → (p + u ≤ m + lead) × (m + lead < p + u + u)
       sums p e r = (omega arith, omega arith)
 
-pub lead-lt : (mode : Rounding) (s : Bool) (m u : ℕ) → 2 ≤ u → leadIn mode s m u < u
-lead-lt Nearest s m u h = half (m / u % 2) u h (mod-lt (m / u) (lit< tt))
+pub increment-lt : (mode : Rounding) (s : Bool) (m u : ℕ) → 2 ≤ u → increment mode s m u < u
+increment-lt Nearest s m u h = half (m / u % 2) u h (mod-lt (m / u) (lit< tt))
   where
     half : (b u : ℕ) → 2 ≤ u → b < 2 → u / 2 - 1 + b < u
     half b u h l = omega arith
-lead-lt Up true m u h = omega arith
-lead-lt Up false m u h = omega arith
-lead-lt Down true m u h = omega arith
-lead-lt Down false m u h = omega arith
-lead-lt Zero s m u h = omega arith
+increment-lt Up true m u h = omega arith
+increment-lt Up false m u h = omega arith
+increment-lt Down true m u h = omega arith
+increment-lt Down false m u h = omega arith
+increment-lt Zero s m u h = omega arith
 
 module _ (m h : ℕ) (H : 0 < h) where
   abbrev u : ℕ
@@ -286,7 +286,7 @@ module _ (m h : ℕ) (H : 0 < h) where
     where
       less : (r b : ℕ) → r * 2 < u → b < 2 → r + (u / 2 - 1 + b) < u
       less r b c l = omega arith
-  by-half Ordering·gt c = goes m u U (u / 2 - 1 + m / u % 2) (lead-lt Nearest true m u (two h H)) (more r (m / u % 2) c)
+  by-half Ordering·gt c = goes m u U (u / 2 - 1 + m / u % 2) (increment-lt Nearest true m u (two h H)) (more r (m / u % 2) c)
     where
       two : (h : ℕ) → 0 < h → 2 ≤ 2 * h
       two h p = omega arith
@@ -336,7 +336,7 @@ module _ (m h : ℕ) (H : 0 < h) where
   same-quotient : (m + 0) / u ≡ m / u
   same-quotient = ap (λ (z : ℕ). z / u) (add-zero m)
 
-  pub cut-by-sum : (mode : Rounding) (s : Bool) → (m + leadIn mode s m u) / u ≡ cutTo mode s m u
+  pub cut-by-sum : (mode : Rounding) (s : Bool) → (m + increment mode s m u) / u ≡ cutTo mode s m u
   cut-by-sum Nearest s = by-half (compare (r * 2) u) (cmp (r * 2) u)
   cut-by-sum Up true = same-quotient
   cut-by-sum Up false = away-by-sum
@@ -344,8 +344,8 @@ module _ (m h : ℕ) (H : 0 < h) where
   cut-by-sum Down false = same-quotient
   cut-by-sum Zero s = same-quotient
 
-pub lead-is : (mode t : Rounding) (s b : Bool) (m u : ℕ) → mode ≡ t → s ≡ b → leadIn t b m u ≡ leadIn mode s m u
-lead-is mode t s b m u e d = sym (ap (λ (z : Rounding). leadIn z s m u) e ∙ ap (λ (z : Bool). leadIn t z m u) d)
+pub increment-is : (mode t : Rounding) (s b : Bool) (m u : ℕ) → mode ≡ t → s ≡ b → increment t b m u ≡ increment mode s m u
+increment-is mode t s b m u e d = sym (ap (λ (z : Rounding). increment z s m u) e ∙ ap (λ (z : Bool). increment t z m u) d)
 
 module _ (u sh : ℕ) (e : u ≡ 2 ^ sh) where
   pub unit-least : 0 < sh → 2 ≤ u
@@ -354,10 +354,10 @@ module _ (u sh : ℕ) (e : u ≡ 2 ^ sh) where
   pub unit-most : sh < 64 → u ≤ 2 ^ 63
   unit-most h = subst (λ (z : ℕ). z ≤ 2 ^ 63) (sym e) (pow-mono {j = 63} (le-of-suc-le-suc h))
 
-  pub sum-is : (mode : Rounding) (s : Bool) (m lead : ℕ) → 0 < sh → lead ≡ leadIn mode s m u → (m + lead) / u ≡ cutTo mode s m u
+  pub sum-is : (mode : Rounding) (s : Bool) (m lead : ℕ) → 0 < sh → lead ≡ increment mode s m u → (m + lead) / u ≡ cutTo mode s m u
   sum-is mode s m lead h l =
       ap (λ (z : ℕ). (m + z) / u) l
-      ∙ subst (λ (z : ℕ). (m + leadIn mode s m z) / z ≡ cutTo mode s m z) (sym (e ∙ ap (λ (z : ℕ). 2 ^ z) (one-more sh h) ∙ pow-add 2 1 (sh - 1))) (cut-by-sum m (2 ^ (sh - 1)) (pow-pos (sh - 1)) mode s)
+      ∙ subst (λ (z : ℕ). (m + increment mode s m z) / z ≡ cutTo mode s m z) (sym (e ∙ ap (λ (z : ℕ). 2 ^ z) (one-more sh h) ∙ pow-add 2 1 (sh - 1))) (cut-by-sum m (2 ^ (sh - 1)) (pow-pos (sh - 1)) mode s)
     where
       one-more : (n : ℕ) → 0 < n → n ≡ 1 + (n - 1)
       one-more n h = omega arith

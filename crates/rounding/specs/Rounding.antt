@@ -75,12 +75,12 @@ tiny f num den = ltb 0 num && ltb (num * 2 ^ low f) (hid f * den)
 
 -- ---- what the code's stages give
 
--- what is added to m for its quotient by u, which is even, to be cutTo's
-abbrev pub leadIn : Rounding → Bool → ℕ → ℕ → ℕ
-leadIn Nearest s m u = u / 2 - 1 + m / u % 2
-leadIn Up s m u = cond s 0 (u - 1)
-leadIn Down s m u = cond s (u - 1) 0
-leadIn Zero s m u = 0
+-- the rounding increment: what is added to m for its quotient by u, which is even, to be that of cutTo
+abbrev pub increment : Rounding → Bool → ℕ → ℕ → ℕ
+increment Nearest s m u = u / 2 - 1 + m / u % 2
+increment Up s m u = cond s 0 (u - 1)
+increment Down s m u = cond s (u - 1) 0
+increment Zero s m u = 0
 
 pub record IsCut (mode : Rounding) (s : Bool) (m u kept : ℕ) (exact : Bool) : Type 0 where
   pub kept-is : kept ≡ cutTo mode s m u

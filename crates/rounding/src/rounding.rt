@@ -2,7 +2,7 @@
 ghost use mathlib.Core.Path.{_≡_};
 ghost use Prim.Native.Nat.{_*_, _≤_, _<_, _^_, min, compare};
 ghost use lib.Dec.{eqb};
-ghost use Rattle.rounding.specs.Rounding.{roundingOf, move, leadIn, IsCut};
+ghost use Rattle.rounding.specs.Rounding.{roundingOf, move, increment, IsCut};
 
 // FPSCR 23:22.
 pub enum Rounding {
@@ -83,10 +83,10 @@ pub fn step(mode: Rounding, negative: bool, q: u64, rest: u64, unit: u64) -> Rou
     }
 }
 
-// What is added to m for its quotient by u, which is even, to be rounded by the mode: it carries where that is the next number.
-fn lead_in(mode: Rounding, negative: bool, m: u64, u: u64) -> u64
+// The rounding increment: what is added to m for its quotient by u, which is even, to be rounded by the mode. It carries where that is the next number.
+fn increment(mode: Rounding, negative: bool, m: u64, u: u64) -> u64
     requires { ⌜ 2 ≤ u ⌝ }
-    ensures { λ r. ⌜ r ≡ leadIn mode negative m u ⌝ }
+    ensures { λ r. ⌜ r ≡ increment mode negative m u ⌝ }
 {
     match mode {
         Rounding::Nearest => u / 2 - 1 + m / u % 2,
@@ -102,7 +102,7 @@ pub fn cut(mode: Rounding, negative: bool, m: u64, shift: u64) -> Rounded
     ensures { λ r. ⌜ IsCut mode negative m (2 ^ shift) (r .kept) (r .exact) ⌝ }
 {
     let u = power(shift);
-    let sum = m + lead_in(mode, negative, m, u);
+    let sum = m + increment(mode, negative, m, u);
     Rounded {
         kept: sum / u,
         exact: m % u == 0,
