@@ -1,4 +1,4 @@
--- `numbers::root::estimate` meets its contract.
+-- `roots::root::estimate` meets its contract.
 use native.Mathlib.Omega.{arith}
 use lib.Ieee.{binary64}
 use Rattle.rounding.proofs.Patterns.{up-to-infinity}

@@ -8,7 +8,7 @@ use Rattle.roots.proofs.root.root64.Statement.{statement}
 use Rattle.roots.proofs.root.root64.Tie as tie
 
 returns : tie.Need-returns
-returns c = sqrt-of-zero (c .before .args .mode) binary64 (c .before .args .b) (c .before .fits .b .fits) (c .if1 .taken)
+returns c = sqrt-of-zero (c .before .args .mode) binary64 (c .before .args .b) (c .before .fits .b .fits) (omega arith)
 
 returns-2 : tie.Need-returns-2
 returns-2 c = root-nan (c .before .before .args .mode) binary64 (c .before .before .args .b) (sqrt-negative (c .before .before .args .mode) binary64 (c .before .before .args .b) (omega arith) (c .if2 .taken))

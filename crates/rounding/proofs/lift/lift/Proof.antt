@@ -8,7 +8,7 @@ cast-result : tie.Need-cast-result
 cast-result c = omega (arith, leading-le 64 (c .args .t))
 
 sub-result : tie.Need-sub-result
-sub-result c = zeros-enough (c .args .t) (c .pre .0) (c .pre .1)
+sub-result c = omega (arith, zeros-enough (c .args .t) (c .pre .0) (c .pre .1))
 
 returns : tie.Need-returns
 returns c = lifted (c .args .t) (c .pre .0) (c .pre .1)

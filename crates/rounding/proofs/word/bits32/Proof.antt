@@ -1,4 +1,4 @@
--- `numbers::word::bits32` meets its contract. Assumes nothing.
+-- `rounding::word::bits32` meets its contract. Assumes nothing.
 use borrow.Author.Needs.{needs}
 use mathlib.Core.Path.{sym}
 use lib.Ieee.{binary32}

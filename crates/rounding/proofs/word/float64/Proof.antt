@@ -1,4 +1,4 @@
--- `numbers::word::float64` meets its contract. Assumes nothing.
+-- `rounding::word::float64` meets its contract. Assumes nothing.
 use mathlib.Core.Path.{sym, _∙_}
 use lib.Ieee.{binary64}
 use Rattle.rounding.proofs.Patterns.{reads-nan, no-nan-pattern, zero-over-zero}

@@ -1,4 +1,4 @@
--- `numbers::word::is_nan64` meets its contract. Assumes nothing.
+-- `rounding::word::is_nan64` meets its contract. Assumes nothing.
 use lib.Ieee.{binary64}
 use Rattle.rounding.proofs.Patterns.{nan-doubled}
 use borrow.Author.Needs.{needs}
