@@ -3,8 +3,8 @@ use mathlib.Core.Path.{refl}
 use lib.Ieee.{ofBits, toBits, eq, lt, isNan}
 use Rattle.machine.specs.Window.{wordAt}
 use Rattle.numbers.specs.Compare.{compareFlags}
-use Rattle.numbers.specs.Flush.{flush}
-use Rattle.numbers.specs.Rounding.{roundingOf, rounded}
+use Rattle.rounding.specs.Flush.{flush}
+use Rattle.rounding.specs.Rounding.{roundingOf, rounded}
 use Rattle.numbers.specs.Convert.{narrowed, narrow}
 use Rattle.numbers.specs.Integer.{integerOf, toInteger}
 use Rattle.meaning.specs.Step.{after}

@@ -13,14 +13,14 @@ use Rattle.machine.specs.Machine.{withS, withFpscr}
 use Rattle.machine.specs.Place.{Place, core, flags, control, sWord, state}
 use Rattle.numbers.specs.declared.arithmetic.Arithmetic.{Arithmetic}
 use Rattle.numbers.specs.declared.arithmetic.Arithmetic.the-variants.{MultiplyAccumulate, MultiplySubtract, NegateMultiplySubtract, NegateMultiplyAccumulate, Multiply, NegateMultiply, Add, Subtract, Divide}
-use Rattle.numbers.specs.declared.rounding.Rounding.{Rounding}
-use Rattle.numbers.specs.declared.rounding.Rounding.the-variants.{Zero}
+use Rattle.rounding.specs.declared.rounding.Rounding.{Rounding}
+use Rattle.rounding.specs.declared.rounding.Rounding.the-variants.{Zero}
 use Rattle.numbers.specs.Arithmetic.{arithmetic, accumulates}
-use Rattle.numbers.specs.Root.{squareRoot}
+use Rattle.roots.specs.Root.{squareRoot}
 use Rattle.numbers.specs.Convert.{narrow, widen}
 use Rattle.numbers.specs.Integer.{fromInteger, toInteger}
 use Rattle.numbers.specs.Compare.{compareFlags}
-use Rattle.numbers.specs.Rounding.{roundingOf}
+use Rattle.rounding.specs.Rounding.{roundingOf}
 use Rattle.meaning.specs.Step.{Write, Step, Act, fst, rest, snd, once}
 use Rattle.meaning.specs.Stop as Stop
 use Rattle.meaning.specs.Tree.{Tree, stop, go, ask, out, on, plain}

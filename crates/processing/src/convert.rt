@@ -20,8 +20,8 @@ use numbers::integer::from_integer32;
 use numbers::integer::from_integer64;
 use numbers::integer::to_integer32;
 use numbers::integer::to_integer64;
-use numbers::rounding::Rounding;
-use numbers::rounding::rounding_of;
+use rounding::rounding::Rounding;
+use rounding::rounding::rounding_of;
 
 pub fn widen_single(s: &mut [u32; 32], d: Double, m: Single)
     ensures { λ _. ⌜ ((q : Machine) (v : List ℕ) → state (withS q (now (s .exit))) v ≡ step (widenStep (d .0) (m .0)) (state (withS q (now (s .entry))) v)) ⌝ }

@@ -16,8 +16,8 @@ use machine::registers::get_double;
 use machine::registers::get_single;
 use machine::registers::set_double;
 use machine::registers::set_single;
-use numbers::root::square_root32;
-use numbers::root::square_root64;
+use roots::root::square_root32;
+use roots::root::square_root64;
 
 pub fn root_single(s: &mut [u32; 32], d: Single, m: Single)
     ensures { λ _. ⌜ ((control : ℕ) (q : Machine) (v : List ℕ) → state (withS q (now (s .exit))) v ≡ step (rootStep binary32 control (d .0) (m .0)) (state (withS q (now (s .entry))) v)) ⌝ }
