@@ -11,7 +11,7 @@ use borrow.Author.Tests.{eqb-true, eq-eqb, ne-eqb, le-leb, lt-leb, lt-ltb, le-lt
 use Rattle.bits.specs.Field.{field, bitOf}
 use Rattle.bits.specs.Psr.{holds, psrOf}
 use Rattle.bits.proofs.Flags.{psr-nzcv}
-use Rattle.bits.proofs.Truth.{clash}
+use mathlib.Core.Bool.{true≢false}
 use Rattle.machine.specs.declared.Controls.{Controls}
 use Rattle.machine.specs.Machine.{assembled}
 use Rattle.machine.specs.Place.{State, state, core, nzcv}
@@ -120,7 +120,7 @@ module _ (k : ℕ) (t : Tree) (st : State) where
   condition-holds o h e = asked true h o e (λ g. refl)
 
   pub condition-fails : holds k (st .machine .cpsr) ≡ false → out st on ≡ plain (conditioned k t) st
-  condition-fails h = asked false h (out st on) (plain-nothing st) (λ g. absurd (clash (sym (always k (st .machine .cpsr) (eqb-true k 14 g)) ∙ h)))
+  condition-fails h = asked false h (out st on) (plain-nothing st) (λ g. absurd (true≢false (sym (always k (st .machine .cpsr) (eqb-true k 14 g)) ∙ h)))
 
 -- a condition has four bits
 pub condition-field : (w k : ℕ) → k ≡ field w 28 31 → k % 16 ≡ field w 28 31
