@@ -1,7 +1,7 @@
 -- From what a leaf does to what its word means, over the precision.
 use Prim.Native.Nat.{ℕ, zero, suc, _%_, _^_, _<_, _≤_}
 use native.Mathlib.Omega.{arith}
-use mathlib.Core.Path.{_≡_, refl, _∙_}
+use mathlib.Core.Path.{_≡_, refl, sym, _∙_}
 use mathlib.Core.Bool.{Bool, true, false, cond}
 use mathlib.Core.List.{List}
 use lib.Dec.{eqb}
@@ -13,14 +13,19 @@ use Rattle.machine.specs.declared.Machine.{Machine}
 use Rattle.machine.specs.Machine.{withS, withFpscr}
 use Rattle.machine.specs.Place.{state}
 use Rattle.numbers.specs.declared.arithmetic.Arithmetic.{Arithmetic}
+use Rattle.numbers.specs.declared.arithmetic.Arithmetic.the-variants.{Divide}
 use Rattle.meaning.specs.Step.{Step, step, after, once}
 use Rattle.meaning.specs.Tree.{Tree, go}
 use Rattle.meaning.proofs.Laws.{plain-ask, plain-family, plain-once}
 use Rattle.processing.specs.declared.Processed.{Processed}
 use Rattle.processing.specs.declared.Processed.the-variants.{Done, Undefined}
-use Rattle.processing.specs.Vector.{iterationsOf}
-use Rattle.processing.specs.Operation.{undefined, extensionBy, arithmetics, operationBy, kindOf, operationOf}
-use Rattle.processing.specs.Data.{regD, regN, regM, compareStep, compareZeroStep, fromStep, stepping, dyadicStep, monadicStep, dyadic, monadic, arithmeticAt, undefinedTree, operationTree, dataTree, extensionTree, wordTree, dyadicTree, integerTree, Handled}
+use Rattle.steps.specs.Vector.{iterationsOf, monadicStep}
+use Rattle.processing.specs.Fields.{regD, regN, regM, kindOf, kinds, arithmeticAt}
+use Rattle.processing.specs.Operation.{undefined, extensionBy, arithmetics, operationBy, operationOf}
+use Rattle.steps.specs.Arithmetic.{dyadicStep}
+use Rattle.steps.specs.Compare.{compareStep, compareZeroStep}
+use Rattle.steps.specs.Convert.{fromStep}
+use Rattle.processing.specs.Data.{stepping, dyadic, monadic, undefinedTree, operationTree, dataTree, extensionTree, wordTree, dyadicTree, integerTree, Handled}
 
 module _ (w : ℕ) (s s′ : List ℕ) (fpscr : ℕ) (t : Bool → Tree) where
   -- a stepping word
@@ -118,6 +123,11 @@ module _ (f : Format) (w : ℕ) (thumb : Bool) where
   pub word-none : (k : ℕ) → k ≡ kindOf w → 9 ≤ k → (k ≡ 15 → ⊥) → wordTree f w thumb ≡ undefinedTree thumb w
   unfolding operationOf operationBy operationTree arithmetics
   word-none k p h e = rw (← p, ne-eqb _ _ e, List·getD-eq-default arithmetics undefined h)
+
+-- every kind from 8 on is a division
+pub past : (k : ℕ) → 8 ≤ k → Divide ≡ arithmeticAt k
+unfolding arithmeticAt
+past k h = sym (List·getD-eq-default kinds Divide h)
 
 -- ---- the coprocessor
 

@@ -5,25 +5,25 @@ ghost use lib.Ieee.{binary64};
 ghost use Rattle.processing.specs.declared.Processed.the-variants.{Done};
 ghost use Rattle.processing.specs.Data.{Handled, extensionTree, wordTree, dyadicTree, integerTree};
 use super::Processed;
-use super::arithmetic::arithmetic_doubles;
-use super::arithmetic::arithmetic_of;
-use super::compare::compare_double;
-use super::compare::compare_double_zero;
-use super::convert::from_integer_double;
-use super::convert::narrow_double;
-use super::convert::round_double;
-use super::convert::truncate_double;
+use super::fields::arithmetic_of;
 use super::fields::double_d;
 use super::fields::double_m;
 use super::fields::double_n;
 use super::fields::kind;
 use super::fields::single_d;
 use super::fields::single_m;
-use super::root::root_doubles;
-use super::sign::Sign;
-use super::sign::sign_doubles;
 use bits::field::bit;
 use bits::field::bits;
+use steps::arithmetic::arithmetic_doubles;
+use steps::compare::compare_double;
+use steps::compare::compare_double_zero;
+use steps::convert::from_integer_double;
+use steps::convert::narrow_double;
+use steps::convert::round_double;
+use steps::convert::truncate_double;
+use steps::root::root_doubles;
+use steps::sign::Sign;
+use steps::sign::sign_doubles;
 
 // Bits 23, 21, 20 and 6 tell the arithmetic from the extension group.
 pub fn process_double(s: &mut [u32; 32], fpscr: u32, op: u32) -> Processed

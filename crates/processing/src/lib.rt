@@ -1,13 +1,7 @@
 // Data processing over lent singles: the arithmetic and the extension group, in both precisions.
-pub mod arithmetic;
-pub mod compare;
-pub mod convert;
 pub mod double;
 pub mod fields;
-pub mod root;
-pub mod sign;
 pub mod single;
-pub mod vector;
 
 ghost use mathlib.Core.Path.{_≡_};
 ghost use Rattle.processing.specs.Data.{Handled, treeOf};

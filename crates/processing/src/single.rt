@@ -5,24 +5,24 @@ ghost use lib.Ieee.{binary32};
 ghost use Rattle.processing.specs.declared.Processed.the-variants.{Done};
 ghost use Rattle.processing.specs.Data.{Handled, extensionTree, wordTree, dyadicTree, integerTree};
 use super::Processed;
-use super::arithmetic::arithmetic_of;
-use super::arithmetic::arithmetic_singles;
-use super::compare::compare_single;
-use super::compare::compare_single_zero;
-use super::convert::from_integer_single;
-use super::convert::round_single;
-use super::convert::truncate_single;
-use super::convert::widen_single;
+use super::fields::arithmetic_of;
 use super::fields::double_d;
 use super::fields::kind;
 use super::fields::single_d;
 use super::fields::single_m;
 use super::fields::single_n;
-use super::root::root_singles;
-use super::sign::Sign;
-use super::sign::sign_singles;
 use bits::field::bit;
 use bits::field::bits;
+use steps::arithmetic::arithmetic_singles;
+use steps::compare::compare_single;
+use steps::compare::compare_single_zero;
+use steps::convert::from_integer_single;
+use steps::convert::round_single;
+use steps::convert::truncate_single;
+use steps::convert::widen_single;
+use steps::root::root_singles;
+use steps::sign::Sign;
+use steps::sign::sign_singles;
 
 // Bits 23, 21, 20 and 6 tell the arithmetic from the extension group.
 pub fn process_single(s: &mut [u32; 32], fpscr: u32, op: u32) -> Processed

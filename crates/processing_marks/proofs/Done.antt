@@ -16,13 +16,15 @@ use Rattle.meaning.specs.Tree.{Tree, go}
 use Rattle.meaning.proofs.Laws.{marked-ask, marked-family, marked-once, marked-stop}
 use Rattle.numbers.specs.declared.arithmetic.Arithmetic.{Arithmetic}
 use Rattle.bits.specs.Field.{field, bitOf}
-use Rattle.processing.specs.declared.sign.Sign.{Sign}
-use Rattle.processing.specs.declared.sign.Sign.the-variants.{Kept, Cleared, Flipped}
+use Rattle.steps.specs.declared.sign.Sign.{Sign}
+use Rattle.steps.specs.declared.sign.Sign.the-variants.{Kept, Cleared, Flipped}
 use Rattle.processing.proofs.Done.{extension-is}
-use Rattle.processing.specs.Vector.{iterationsOf}
+use Rattle.steps.specs.Vector.{iterationsOf, monadicStep}
 use Rattle.processing.specs.Operation.{extensionBy}
-use Rattle.processing.specs.Register.{signStep}
-use Rattle.processing.specs.Data.{regD, regN, regM, stepping, dyadicStep, monadicStep, dyadic, monadic, undefinedTree, operationTree, extensionTree}
+use Rattle.steps.specs.Sign.{signStep}
+use Rattle.steps.specs.Arithmetic.{dyadicStep}
+use Rattle.processing.specs.Fields.{regD, regN, regM}
+use Rattle.processing.specs.Data.{stepping, dyadic, monadic, undefinedTree, operationTree, extensionTree}
 use Rattle.processing_marks.specs.Marked.{Marked}
 
 module _ (fpscr : ℕ) (s s′ : List Bool) (k : Known) (t : Bool → Tree) where

@@ -11,9 +11,13 @@ use Rattle.meaning.specs.declared.Known.{Known}
 use Rattle.meaning.specs.Map.{Map, mapFrom}
 use Rattle.meaning.specs.Step.{allKnown, stepMarks}
 use Rattle.numbers.specs.declared.arithmetic.Arithmetic.{Arithmetic}
-use Rattle.processing.specs.declared.sign.Sign.{Sign}
-use Rattle.processing.specs.Register.{wordsOf, written, signStep}
-use Rattle.processing.specs.Data.{operands, arithmeticStep, rootStep, compareStep, compareZeroStep, widenStep, narrowStep, fromStep, truncateStep, roundStep}
+use Rattle.steps.specs.declared.sign.Sign.{Sign}
+use Rattle.steps.specs.Register.{wordsOf, written}
+use Rattle.steps.specs.Sign.{signStep}
+use Rattle.steps.specs.Arithmetic.{operands, arithmeticStep}
+use Rattle.steps.specs.Root.{rootStep}
+use Rattle.steps.specs.Compare.{compareStep, compareZeroStep}
+use Rattle.steps.specs.Convert.{widenStep, narrowStep, fromStep, truncateStep, roundStep}
 use Rattle.processing_marks.specs.Marked.{flagged}
 use Rattle.processing_marks.specs.Register.{knownIn, allIn, markIn, copyIn}
 

@@ -6,16 +6,17 @@ ghost use Prim.Native.Nat.{ℕ, _<_};
 ghost use Rattle.meaning.specs.declared.Known.{Known};
 ghost use Rattle.meaning.specs.Map.{mapFrom};
 ghost use Rattle.meaning.specs.Step.{afterMarks};
-ghost use Rattle.processing.specs.declared.sign.Sign.{Sign};
-ghost use Rattle.processing.specs.Vector.{precision, iterationsOf};
-ghost use Rattle.processing.specs.Register.{signStep};
-ghost use Rattle.processing.specs.Data.{dyadicStep, monadicStep, rootStep};
+ghost use Rattle.steps.specs.declared.sign.Sign.{Sign};
+ghost use Rattle.steps.specs.Vector.{precision, iterationsOf, monadicStep};
+ghost use Rattle.steps.specs.Sign.{signStep};
+ghost use Rattle.steps.specs.Arithmetic.{dyadicStep};
+ghost use Rattle.steps.specs.Root.{rootStep};
 use super::register::copy;
 use super::register::known;
 use super::register::mark;
 use super::register::operands_known;
 use numbers::arithmetic::Arithmetic;
-use processing::vector::Vector;
+use steps::vector::Vector;
 
 // Arithmetic: the target is known when every word read is.
 pub fn mark_arithmetic(

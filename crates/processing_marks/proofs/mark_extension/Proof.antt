@@ -3,13 +3,17 @@ use Rattle.processing_marks.proofs.Done.{changeOf, sign-below, both, on
 use borrow.Author.Tests.{eqb-true}
 use lib.Dec.{eqb}
 use native.Mathlib.Omega.{arith}
-use Rattle.processing.specs.Vector.{precision}
+use Rattle.steps.specs.Vector.{precision}
 use Rattle.processing_marks.proofs.Steps.{compare-marks, compare-zero-marks, from-marks}
 use Rattle.processing.proofs.Done.{extension-is, compare-either, compare-zero-either, from-either, unsigned-either, signed-either, extension-none}
-use Rattle.processing.specs.Data.{regD, regM, rootStep, compareStep, compareZeroStep, fromStep, extensionTree, integerTree, operationTree}
+use Rattle.steps.specs.Root.{rootStep}
+use Rattle.steps.specs.Compare.{compareStep, compareZeroStep}
+use Rattle.steps.specs.Convert.{fromStep}
+use Rattle.processing.specs.Fields.{regD, regM}
+use Rattle.processing.specs.Data.{extensionTree, integerTree, operationTree}
 use Rattle.processing.specs.Operation.{extensionBy}
 use Rattle.processing_marks.specs.Marked.{convertTree}
-use Rattle.processing.specs.Register.{signStep}
+use Rattle.steps.specs.Sign.{signStep}
 use denote.Ref.{now}
 use mathlib.Core.Path.{refl, sym, _∙_}
 use mathlib.Core.Bool.{true, false}

@@ -4,10 +4,12 @@ use mathlib.Core.Bool.{true, false}
 use mathlib.Core.Path.{refl, sym}
 use denote.Ref.{now}
 use borrow.Author.Needs.{needs}
-use Rattle.processing.specs.Data.{regD, regM, truncateStep, roundStep, integerTree}
+use Rattle.steps.specs.Convert.{truncateStep, roundStep}
+use Rattle.processing.specs.Fields.{regD, regM}
+use Rattle.processing.specs.Data.{integerTree}
 use Rattle.processing_marks.proofs.Done.{once-marked}
 use Rattle.processing_marks.proofs.Steps.{truncate-marks, round-marks}
-use Rattle.processing.specs.Vector.{precision}
+use Rattle.steps.specs.Vector.{precision}
 use Rattle.processing_marks.proofs.mark_integer.Statement.{statement}
 use Rattle.processing_marks.proofs.mark_integer.Tie as tie
 

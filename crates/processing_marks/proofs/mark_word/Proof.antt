@@ -1,10 +1,11 @@
 -- `processing_marks::mark_word` meets its contract.
 use denote.Ref.{now}
 use borrow.Author.Needs.{needs}
-use Rattle.processing.specs.Data.{wordTree, extensionTree, arithmeticAt}
+use Rattle.processing.specs.Fields.{arithmeticAt}
+use Rattle.processing.specs.Data.{wordTree, extensionTree}
 use Rattle.processing.proofs.Done.{word-arithmetic, word-extension, word-none}
 use Rattle.processing_marks.proofs.Done.{dyadic-marked, marked-as, undefined-marked}
-use Rattle.processing.specs.Vector.{precision}
+use Rattle.steps.specs.Vector.{precision}
 use Rattle.processing_marks.proofs.mark_word.Statement.{statement}
 use Rattle.processing_marks.proofs.mark_word.Tie as tie
 

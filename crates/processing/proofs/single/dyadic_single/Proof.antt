@@ -3,7 +3,8 @@ use lib.Ieee.{binary32}
 use mathlib.Core.Path.{refl}
 use denote.Ref.{now}
 use borrow.Author.Needs.{needs}
-use Rattle.processing.specs.Data.{dyadicTree, arithmeticAt}
+use Rattle.processing.specs.Fields.{arithmeticAt}
+use Rattle.processing.specs.Data.{dyadicTree}
 use Rattle.processing.proofs.Done.{dyadic-done}
 use Rattle.processing.proofs.single.dyadic_single.Statement.{statement}
 use Rattle.processing.proofs.single.dyadic_single.Tie as tie

@@ -1,0 +1,5 @@
+-- Laws of the crate's proofs, over the precision.
+
+pub mod Turns
+mod Steps
+mod Banks
