@@ -9,17 +9,17 @@ use lib.ListN.{getD, List·getD-eq-default}
 use lib.Ieee.{Format, binary32, binary64}
 use borrow.Author.Tests.{ne-eqb}
 use Rattle.bits.specs.Field.{field, bitOf}
-use Rattle.machine.specs.declared.Machine.{Machine}
 use Rattle.machine.specs.Machine.{withS, withFpscr}
 use Rattle.machine.specs.Place.{state}
 use Rattle.numbers.specs.declared.arithmetic.Arithmetic.{Arithmetic}
 use Rattle.numbers.specs.declared.arithmetic.Arithmetic.the-variants.{Divide}
-use Rattle.meaning.specs.Step.{Step, step, after, once}
+use Rattle.meaning.specs.Step.{Step, once}
 use Rattle.meaning.specs.Tree.{Tree, go}
 use Rattle.meaning.proofs.Laws.{plain-ask, plain-family, plain-once}
 use Rattle.processing.specs.declared.Processed.{Processed}
 use Rattle.processing.specs.declared.Processed.the-variants.{Done, Undefined}
 use Rattle.steps.specs.Vector.{iterationsOf, monadicStep}
+use Rattle.steps.specs.Register.{SteppedWith, Iterated}
 use Rattle.processing.specs.Fields.{regD, regN, regM, kindOf, kinds, arithmeticAt}
 use Rattle.processing.specs.Operation.{undefined, extensionBy, arithmetics, operationBy, operationOf}
 use Rattle.steps.specs.Arithmetic.{dyadicStep}
@@ -30,27 +30,27 @@ use Rattle.processing.specs.Data.{stepping, dyadic, monadic, undefinedTr
 module _ (w : ℕ) (s s′ : List ℕ) (fpscr : ℕ) (t : Bool → Tree) where
   -- a stepping word
   stepping-done : (f : Format) (d : ℕ) (each : ℕ → ℕ → Step) → ((thumb : Bool) → t thumb ≡ stepping f d each)
-      → ((q : Machine) (v : List ℕ) → state (withS q s′) v ≡ after (iterationsOf f (fpscr % 2 ^ 28) d) (each (fpscr % 2 ^ 28)) (state (withS q s) v))
+      → Iterated (iterationsOf f (fpscr % 2 ^ 28) d) (each (fpscr % 2 ^ 28)) s s′
       → Handled t w s fpscr s′ (Done fpscr)
   stepping-done f d each e h thumb q v =
       rw (e thumb)
       (plain-ask _ _ _ _ (plain-family _ (each (fpscr % 2 ^ 28)) (state (withS (withFpscr q fpscr) s) v) _ (h (withFpscr q fpscr) v)))
 
   pub dyadic-done : (f : Format) (kind k : Arithmetic) (d n m : ℕ) → ((thumb : Bool) → t thumb ≡ dyadic f w kind) → k ≡ kind → d ≡ regD f w → n ≡ regN f w → m ≡ regM f w
-      → ((q : Machine) (v : List ℕ) → state (withS q s′) v ≡ after (iterationsOf f (fpscr % 2 ^ 28) d) (dyadicStep f (fpscr % 2 ^ 28) k d n m) (state (withS q s) v))
+      → Iterated (iterationsOf f (fpscr % 2 ^ 28) d) (dyadicStep f (fpscr % 2 ^ 28) k d n m) s s′
       → Handled t w s fpscr s′ (Done fpscr)
   dyadic-done f kind k d n m e k′ d′ n′ m′ h =
       stepping-done f (regD f w) (λ c. dyadicStep f c kind (regD f w) (regN f w) (regM f w)) e (λ q v. rw (← k′, ← d′, ← n′, ← m′) (h q v))
 
   pub monadic-done : (f : Format) (one : ℕ → ℕ → ℕ → Step) (d m : ℕ) → ((thumb : Bool) → t thumb ≡ monadic f w one) → d ≡ regD f w → m ≡ regM f w
-      → ((q : Machine) (v : List ℕ) → state (withS q s′) v ≡ after (iterationsOf f (fpscr % 2 ^ 28) d) (monadicStep f (fpscr % 2 ^ 28) (one (fpscr % 2 ^ 28)) d m) (state (withS q s) v))
+      → Iterated (iterationsOf f (fpscr % 2 ^ 28) d) (monadicStep f (fpscr % 2 ^ 28) (one (fpscr % 2 ^ 28)) d m) s s′
       → Handled t w s fpscr s′ (Done fpscr)
   monadic-done f one d m e d′ m′ h =
       stepping-done f (regD f w) (λ c. monadicStep f c (one c) (regD f w) (regM f w)) e (λ q v. rw (← d′, ← m′) (h q v))
 
   -- a word of one step, of the registers d and m
   pub once-done : (fpscr′ : ℕ) (one : ℕ → ℕ → Step) (d m d₁ m₁ : ℕ) → ((thumb : Bool) → t thumb ≡ go (once (one d₁ m₁))) → d ≡ d₁ → m ≡ m₁
-      → ((q : Machine) (v : List ℕ) → state (withS (withFpscr q fpscr′) s′) v ≡ step (one d m) (state (withS (withFpscr q fpscr) s) v))
+      → SteppedWith (one d m) fpscr s fpscr′ s′
       → Handled t w s fpscr s′ (Done fpscr′)
   once-done fpscr′ one d m d₁ m₁ e d′ m′ h thumb q v =
       rw (e thumb) (plain-once (one d₁ m₁) (state (withS (withFpscr q fpscr) s) v) _ (rw (← d′, ← m′) (h q v)))
@@ -125,9 +125,9 @@ module _ (f : Format) (w : ℕ) (thumb : Bool) where
   word-none k p h e = rw (← p, ne-eqb _ _ e, List·getD-eq-default arithmetics undefined h)
 
 -- every kind from 8 on is a division
-pub past : (k : ℕ) → 8 ≤ k → Divide ≡ arithmeticAt k
+pub divide-from : (k : ℕ) → 8 ≤ k → Divide ≡ arithmeticAt k
 unfolding arithmeticAt
-past k h = sym (List·getD-eq-default kinds Divide h)
+divide-from k h = sym (List·getD-eq-default kinds Divide h)
 
 -- ---- the coprocessor
 

@@ -14,7 +14,7 @@ use Rattle.numbers.specs.declared.arithmetic.Arithmetic.the-variants.{MultiplyA
 use Rattle.meaning.specs.Step.{Step, Act, once}
 use Rattle.meaning.specs.Stop as Stop
 use Rattle.meaning.specs.Tree.{Tree, stop, go, ask, out, on, plain}
-use Rattle.steps.specs.declared.sign.Sign.the-variants.{Kept, Cleared, Flipped}
+use Rattle.steps.specs.declared.sign.SignOperation.the-variants.{Copy, Absolute, Negate}
 use Rattle.steps.specs.Vector.{iterationsOf, monadicStep}
 use Rattle.steps.specs.Arithmetic.{dyadicStep}
 use Rattle.steps.specs.Sign.{signStep}
@@ -58,9 +58,9 @@ operationTree thumb f w fnmul = dyadic f w NegateMultiply
 operationTree thumb f w fadd = dyadic f w Add
 operationTree thumb f w fsub = dyadic f w Subtract
 operationTree thumb f w fdiv = dyadic f w Divide
-operationTree thumb f w fcpy = monadic f w (λ c. signStep f Kept)
-operationTree thumb f w fabs = monadic f w (λ c. signStep f Cleared)
-operationTree thumb f w fneg = monadic f w (λ c. signStep f Flipped)
+operationTree thumb f w fcpy = monadic f w (λ c. signStep f Copy)
+operationTree thumb f w fabs = monadic f w (λ c. signStep f Absolute)
+operationTree thumb f w fneg = monadic f w (λ c. signStep f Negate)
 operationTree thumb f w fsqrt = monadic f w (rootStep f)
 operationTree thumb f w fcmp = go (once (compareStep f (regD f w) (regM f w)))
 operationTree thumb f w fcmpe = go (once (compareStep f (regD f w) (regM f w)))
@@ -89,10 +89,6 @@ extensionTree f w thumb = operationTree thumb f w (extensionBy (field w 16 19) (
 
 abbrev pub wordTree : Format → ℕ → Bool → Tree
 wordTree f w thumb = operationTree thumb f w (operationOf w)
-
--- the same by the word first
-abbrev pub treeOf : ℕ → Bool → Tree
-treeOf w thumb = dataTree thumb w
 
 -- arithmetic of a kind by its number, and a conversion to an integer
 abbrev pub dyadicTree : Format → ℕ → ℕ → Bool → Tree

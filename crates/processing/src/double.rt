@@ -22,7 +22,7 @@ use steps::convert::narrow_double;
 use steps::convert::round_double;
 use steps::convert::truncate_double;
 use steps::root::root_doubles;
-use steps::sign::Sign;
+use steps::sign::SignOperation;
 use steps::sign::sign_doubles;
 
 // Bits 23, 21, 20 and 6 tell the arithmetic from the extension group.
@@ -62,7 +62,7 @@ pub fn extension_double(s: &mut [u32; 32], fpscr: u32, op: u32) -> Processed
                 sign_doubles(
                     s,
                     fpscr % 0x1000_0000,
-                    Sign::Cleared,
+                    SignOperation::Absolute,
                     double_d(op),
                     double_m(op),
                 );
@@ -71,7 +71,7 @@ pub fn extension_double(s: &mut [u32; 32], fpscr: u32, op: u32) -> Processed
             sign_doubles(
                 s,
                 fpscr % 0x1000_0000,
-                Sign::Kept,
+                SignOperation::Copy,
                 double_d(op),
                 double_m(op),
             );
@@ -86,7 +86,7 @@ pub fn extension_double(s: &mut [u32; 32], fpscr: u32, op: u32) -> Processed
             sign_doubles(
                 s,
                 fpscr % 0x1000_0000,
-                Sign::Flipped,
+                SignOperation::Negate,
                 double_d(op),
                 double_m(op),
             );

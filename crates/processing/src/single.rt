@@ -21,7 +21,7 @@ use steps::convert::round_single;
 use steps::convert::truncate_single;
 use steps::convert::widen_single;
 use steps::root::root_singles;
-use steps::sign::Sign;
+use steps::sign::SignOperation;
 use steps::sign::sign_singles;
 
 // Bits 23, 21, 20 and 6 tell the arithmetic from the extension group.
@@ -61,7 +61,7 @@ pub fn extension_single(s: &mut [u32; 32], fpscr: u32, op: u32) -> Processed
                 sign_singles(
                     s,
                     fpscr % 0x1000_0000,
-                    Sign::Cleared,
+                    SignOperation::Absolute,
                     single_d(op),
                     single_m(op),
                 );
@@ -70,7 +70,7 @@ pub fn extension_single(s: &mut [u32; 32], fpscr: u32, op: u32) -> Processed
             sign_singles(
                 s,
                 fpscr % 0x1000_0000,
-                Sign::Kept,
+                SignOperation::Copy,
                 single_d(op),
                 single_m(op),
             );
@@ -85,7 +85,7 @@ pub fn extension_single(s: &mut [u32; 32], fpscr: u32, op: u32) -> Processed
             sign_singles(
                 s,
                 fpscr % 0x1000_0000,
-                Sign::Flipped,
+                SignOperation::Negate,
                 single_d(op),
                 single_m(op),
             );

@@ -36,6 +36,6 @@ arithmetic-step f c kind d n m st = by f (accumulates kind) refl
     by binary64 false e = ap (store binary64 st d) (without-d binary64 c kind (fetch binary64 st n) (fetch binary64 st m) 0 (fetch binary64 st d) e)
 
 -- where FPSCR bit 24 is clear
-pub kept-step : (f : Format) (c : ℕ) (kind : Arithmetic) (d n m : ℕ) (st : State) → c / 2 ^ 24 % 2 ≡ 0
+pub unflushed-step : (f : Format) (c : ℕ) (kind : Arithmetic) (d n m : ℕ) (st : State) → c / 2 ^ 24 % 2 ≡ 0
     → step (arithmeticStep f c kind d n m) st ≡ store f st d (applied f kind (fetch f st n) (fetch f st m) (fetch f st d))
-kept-step f c kind d n m st h = arithmetic-step f c kind d n m st ∙ ap (store f st d) (kept f c kind (fetch f st n) (fetch f st m) (fetch f st d) h)
+unflushed-step f c kind d n m st h = arithmetic-step f c kind d n m st ∙ ap (store f st d) (kept f c kind (fetch f st n) (fetch f st m) (fetch f st d) h)

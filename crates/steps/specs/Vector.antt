@@ -46,7 +46,7 @@ pub record Vectored (f : Format) (c d : ℕ) (v : Vector) : Type 0 where
   pub bank : v .bank ≡ bankOf f
 
 -- what a step asks for: a bank, and numbers small enough
-pub record Steps (v : Vector) (r i : ℕ) : Type 0 where
+pub record Steppable (v : Vector) (r i : ℕ) : Type 0 where
   pub bank : 0 < v .bank
   pub few : v .bank ≤ 8
   pub stride : v .stride ≤ 2

@@ -1,13 +1,9 @@
 // The arithmetic: iterations in turn, each reading what earlier ones wrote.
 ghost use mathlib.Core.Path.{_≡_};
-ghost use mathlib.Core.List.{List};
 ghost use Prim.Native.Nat.{ℕ, _/_, _%_, _^_, _<_};
 ghost use lib.Ieee.{binary32, binary64};
-ghost use Rattle.machine.specs.declared.Machine.{Machine};
-ghost use Rattle.machine.specs.Machine.{withS};
-ghost use Rattle.machine.specs.Place.{state};
-ghost use Rattle.meaning.specs.Step.{step, after};
 ghost use Rattle.steps.specs.Vector.{iterationsOf};
+ghost use Rattle.steps.specs.Register.{Stepped, Iterated};
 ghost use Rattle.steps.specs.Arithmetic.{arithmeticStep, dyadicStep};
 use super::vector::Vector;
 use machine::registers::Double;
@@ -30,7 +26,7 @@ pub fn arithmetic_single(
     n: Single,
     m: Single,
 )
-    ensures { λ _. ⌜ ((q : Machine) (v : List ℕ) → state (withS q (now (s .exit))) v ≡ step (arithmeticStep binary32 control kind (d .0) (n .0) (m .0)) (state (withS q (now (s .entry))) v)) ⌝ }
+    ensures { λ _. ⌜ Stepped (arithmeticStep binary32 control kind (d .0) (n .0) (m .0)) (now (s .entry)) (now (s .exit)) ⌝ }
 {
     let a = get_single(s, n);
     let b = get_single(s, m);
@@ -47,7 +43,7 @@ pub fn arithmetic_double(
     n: Double,
     m: Double,
 )
-    ensures { λ _. ⌜ ((q : Machine) (v : List ℕ) → state (withS q (now (s .exit))) v ≡ step (arithmeticStep binary64 control kind (d .0) (n .0) (m .0)) (state (withS q (now (s .entry))) v)) ⌝ }
+    ensures { λ _. ⌜ Stepped (arithmeticStep binary64 control kind (d .0) (n .0) (m .0)) (now (s .entry)) (now (s .exit)) ⌝ }
 {
     let a = get_double(s, n);
     let b = get_double(s, m);
@@ -57,8 +53,8 @@ pub fn arithmetic_double(
 }
 
 // A step where results are stored as they are.
-pub fn kept_single(s: &mut [u32; 32], kind: Arithmetic, d: Single, n: Single, m: Single)
-    ensures { λ _. ⌜ ((control : ℕ) → control / 2 ^ 24 % 2 ≡ 0 → (q : Machine) (v : List ℕ) → state (withS q (now (s .exit))) v ≡ step (arithmeticStep binary32 control kind (d .0) (n .0) (m .0)) (state (withS q (now (s .entry))) v)) ⌝ }
+pub fn unflushed_single(s: &mut [u32; 32], kind: Arithmetic, d: Single, n: Single, m: Single)
+    ensures { λ _. ⌜ ((control : ℕ) → control / 2 ^ 24 % 2 ≡ 0 → Stepped (arithmeticStep binary32 control kind (d .0) (n .0) (m .0)) (now (s .entry)) (now (s .exit))) ⌝ }
 {
     let a = get_single(s, n);
     let b = get_single(s, m);
@@ -68,7 +64,7 @@ pub fn kept_single(s: &mut [u32; 32], kind: Arithmetic, d: Single, n: Single, m:
 }
 
 // The iterations where results are stored as they are.
-pub fn kept_singles(
+pub fn unflushed_singles(
     s: &mut [u32; 32],
     control: u32,
     kind: Arithmetic,
@@ -77,7 +73,7 @@ pub fn kept_singles(
     m: Single,
 )
     requires { ⌜ (d .0 < 32) × (n .0 < 32) × (m .0 < 32) × (control / 2 ^ 24 % 2 ≡ 0) ⌝ }
-    ensures { λ _. ⌜ ((q : Machine) (v : List ℕ) → state (withS q (now (s .exit))) v ≡ after (iterationsOf binary32 control (d .0)) (dyadicStep binary32 control kind (d .0) (n .0) (m .0)) (state (withS q (now (s .entry))) v)) ⌝ }
+    ensures { λ _. ⌜ Iterated (iterationsOf binary32 control (d .0)) (dyadicStep binary32 control kind (d .0) (n .0) (m .0)) (now (s .entry)) (now (s .exit)) ⌝ }
 {
     let vector = Vector::new(control, false, d.0);
     let count = vector.iterations;
@@ -86,7 +82,7 @@ pub fn kept_singles(
     let mut mn = m.0;
     let mut i: usize = 0;
     loop {
-        kept_single(s, kind, Single(dn), Single(nn), Single(mn));
+        unflushed_single(s, kind, Single(dn), Single(nn), Single(mn));
         i += 1;
         if i >= count {
             return;
@@ -106,10 +102,10 @@ pub fn arithmetic_singles(
     m: Single,
 )
     requires { ⌜ (d .0 < 32) × (n .0 < 32) × (m .0 < 32) ⌝ }
-    ensures { λ _. ⌜ ((q : Machine) (v : List ℕ) → state (withS q (now (s .exit))) v ≡ after (iterationsOf binary32 control (d .0)) (dyadicStep binary32 control kind (d .0) (n .0) (m .0)) (state (withS q (now (s .entry))) v)) ⌝ }
+    ensures { λ _. ⌜ Iterated (iterationsOf binary32 control (d .0)) (dyadicStep binary32 control kind (d .0) (n .0) (m .0)) (now (s .entry)) (now (s .exit)) ⌝ }
 {
     if control / 0x100_0000 % 2 == 0 {
-        kept_singles(s, control, kind, d, n, m);
+        unflushed_singles(s, control, kind, d, n, m);
         return;
     }
     let vector = Vector::new(control, false, d.0);
@@ -131,8 +127,8 @@ pub fn arithmetic_singles(
 }
 
 // A step where results are stored as they are.
-pub fn kept_double(s: &mut [u32; 32], kind: Arithmetic, d: Double, n: Double, m: Double)
-    ensures { λ _. ⌜ ((control : ℕ) → control / 2 ^ 24 % 2 ≡ 0 → (q : Machine) (v : List ℕ) → state (withS q (now (s .exit))) v ≡ step (arithmeticStep binary64 control kind (d .0) (n .0) (m .0)) (state (withS q (now (s .entry))) v)) ⌝ }
+pub fn unflushed_double(s: &mut [u32; 32], kind: Arithmetic, d: Double, n: Double, m: Double)
+    ensures { λ _. ⌜ ((control : ℕ) → control / 2 ^ 24 % 2 ≡ 0 → Stepped (arithmeticStep binary64 control kind (d .0) (n .0) (m .0)) (now (s .entry)) (now (s .exit))) ⌝ }
 {
     let a = get_double(s, n);
     let b = get_double(s, m);
@@ -142,7 +138,7 @@ pub fn kept_double(s: &mut [u32; 32], kind: Arithmetic, d: Double, n: Double, m:
 }
 
 // The iterations where results are stored as they are.
-pub fn kept_doubles(
+pub fn unflushed_doubles(
     s: &mut [u32; 32],
     control: u32,
     kind: Arithmetic,
@@ -151,7 +147,7 @@ pub fn kept_doubles(
     m: Double,
 )
     requires { ⌜ (d .0 < 32) × (n .0 < 32) × (m .0 < 32) × (control / 2 ^ 24 % 2 ≡ 0) ⌝ }
-    ensures { λ _. ⌜ ((q : Machine) (v : List ℕ) → state (withS q (now (s .exit))) v ≡ after (iterationsOf binary64 control (d .0)) (dyadicStep binary64 control kind (d .0) (n .0) (m .0)) (state (withS q (now (s .entry))) v)) ⌝ }
+    ensures { λ _. ⌜ Iterated (iterationsOf binary64 control (d .0)) (dyadicStep binary64 control kind (d .0) (n .0) (m .0)) (now (s .entry)) (now (s .exit)) ⌝ }
 {
     let vector = Vector::new(control, true, d.0);
     let count = vector.iterations;
@@ -160,7 +156,7 @@ pub fn kept_doubles(
     let mut mn = m.0;
     let mut i: usize = 0;
     loop {
-        kept_double(s, kind, Double(dn), Double(nn), Double(mn));
+        unflushed_double(s, kind, Double(dn), Double(nn), Double(mn));
         i += 1;
         if i >= count {
             return;
@@ -180,10 +176,10 @@ pub fn arithmetic_doubles(
     m: Double,
 )
     requires { ⌜ (d .0 < 32) × (n .0 < 32) × (m .0 < 32) ⌝ }
-    ensures { λ _. ⌜ ((q : Machine) (v : List ℕ) → state (withS q (now (s .exit))) v ≡ after (iterationsOf binary64 control (d .0)) (dyadicStep binary64 control kind (d .0) (n .0) (m .0)) (state (withS q (now (s .entry))) v)) ⌝ }
+    ensures { λ _. ⌜ Iterated (iterationsOf binary64 control (d .0)) (dyadicStep binary64 control kind (d .0) (n .0) (m .0)) (now (s .entry)) (now (s .exit)) ⌝ }
 {
     if control / 0x100_0000 % 2 == 0 {
-        kept_doubles(s, control, kind, d, n, m);
+        unflushed_doubles(s, control, kind, d, n, m);
         return;
     }
     let vector = Vector::new(control, true, d.0);

@@ -1,12 +1,8 @@
 // Compares: they set FPSCR 31:28 alone.
 ghost use mathlib.Core.Path.{_≡_};
-ghost use mathlib.Core.List.{List};
-ghost use Prim.Native.Nat.{ℕ, _+_, _*_, _%_, _^_, _<_};
+ghost use Prim.Native.Nat.{_+_, _*_, _%_, _^_, _<_};
 ghost use lib.Ieee.{binary32, binary64};
-ghost use Rattle.machine.specs.declared.Machine.{Machine};
-ghost use Rattle.machine.specs.Machine.{withS, withFpscr};
-ghost use Rattle.machine.specs.Place.{state};
-ghost use Rattle.meaning.specs.Step.{step};
+ghost use Rattle.steps.specs.Register.{SteppedWith};
 ghost use Rattle.steps.specs.Compare.{compareStep, compareZeroStep};
 use machine::registers::Double;
 use machine::registers::Single;
@@ -24,25 +20,25 @@ fn with_flags(fpscr: u32, flags: u32) -> u32
 }
 
 pub fn compare_single(s: &[u32; 32], fpscr: u32, d: Single, m: Single) -> u32
-    ensures { λ r. ⌜ ((q : Machine) (v : List ℕ) → state (withS (withFpscr q r) (now (s .entry))) v ≡ step (compareStep binary32 (d .0) (m .0)) (state (withS (withFpscr q fpscr) (now (s .entry))) v)) ⌝ }
+    ensures { λ r. ⌜ SteppedWith (compareStep binary32 (d .0) (m .0)) fpscr (now (s .entry)) r (now (s .entry)) ⌝ }
 {
     with_flags(fpscr, compare32(get_single(s, d), get_single(s, m)))
 }
 
 pub fn compare_double(s: &[u32; 32], fpscr: u32, d: Double, m: Double) -> u32
-    ensures { λ r. ⌜ ((q : Machine) (v : List ℕ) → state (withS (withFpscr q r) (now (s .entry))) v ≡ step (compareStep binary64 (d .0) (m .0)) (state (withS (withFpscr q fpscr) (now (s .entry))) v)) ⌝ }
+    ensures { λ r. ⌜ SteppedWith (compareStep binary64 (d .0) (m .0)) fpscr (now (s .entry)) r (now (s .entry)) ⌝ }
 {
     with_flags(fpscr, compare64(get_double(s, d), get_double(s, m)))
 }
 
 pub fn compare_single_zero(s: &[u32; 32], fpscr: u32, d: Single) -> u32
-    ensures { λ r. ⌜ ((q : Machine) (v : List ℕ) → state (withS (withFpscr q r) (now (s .entry))) v ≡ step (compareZeroStep binary32 (d .0)) (state (withS (withFpscr q fpscr) (now (s .entry))) v)) ⌝ }
+    ensures { λ r. ⌜ SteppedWith (compareZeroStep binary32 (d .0)) fpscr (now (s .entry)) r (now (s .entry)) ⌝ }
 {
     with_flags(fpscr, compare32(get_single(s, d), 0))
 }
 
 pub fn compare_double_zero(s: &[u32; 32], fpscr: u32, d: Double) -> u32
-    ensures { λ r. ⌜ ((q : Machine) (v : List ℕ) → state (withS (withFpscr q r) (now (s .entry))) v ≡ step (compareZeroStep binary64 (d .0)) (state (withS (withFpscr q fpscr) (now (s .entry))) v)) ⌝ }
+    ensures { λ r. ⌜ SteppedWith (compareZeroStep binary64 (d .0)) fpscr (now (s .entry)) r (now (s .entry)) ⌝ }
 {
     with_flags(fpscr, compare64(get_double(s, d), 0))
 }

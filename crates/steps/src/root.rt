@@ -1,13 +1,8 @@
 // Square roots. They are never subnormal, so that flushing would change none.
-ghost use mathlib.Core.Path.{_≡_};
-ghost use mathlib.Core.List.{List};
 ghost use Prim.Native.Nat.{ℕ, _<_};
 ghost use lib.Ieee.{binary32, binary64};
-ghost use Rattle.machine.specs.declared.Machine.{Machine};
-ghost use Rattle.machine.specs.Machine.{withS};
-ghost use Rattle.machine.specs.Place.{state};
-ghost use Rattle.meaning.specs.Step.{step, after};
 ghost use Rattle.steps.specs.Vector.{iterationsOf, monadicStep};
+ghost use Rattle.steps.specs.Register.{Stepped, Iterated};
 ghost use Rattle.steps.specs.Root.{rootStep};
 use super::vector::Vector;
 use machine::registers::Double;
@@ -20,14 +15,14 @@ use numbers::root::square_root32;
 use numbers::root::square_root64;
 
 pub fn root_single(s: &mut [u32; 32], d: Single, m: Single)
-    ensures { λ _. ⌜ ((control : ℕ) (q : Machine) (v : List ℕ) → state (withS q (now (s .exit))) v ≡ step (rootStep binary32 control (d .0) (m .0)) (state (withS q (now (s .entry))) v)) ⌝ }
+    ensures { λ _. ⌜ ((control : ℕ) → Stepped (rootStep binary32 control (d .0) (m .0)) (now (s .entry)) (now (s .exit))) ⌝ }
 {
     let x = square_root32(get_single(s, m));
     set_single(s, d, x);
 }
 
 pub fn root_double(s: &mut [u32; 32], d: Double, m: Double)
-    ensures { λ _. ⌜ ((control : ℕ) (q : Machine) (v : List ℕ) → state (withS q (now (s .exit))) v ≡ step (rootStep binary64 control (d .0) (m .0)) (state (withS q (now (s .entry))) v)) ⌝ }
+    ensures { λ _. ⌜ ((control : ℕ) → Stepped (rootStep binary64 control (d .0) (m .0)) (now (s .entry)) (now (s .exit))) ⌝ }
 {
     let x = square_root64(get_double(s, m));
     set_double(s, d, x);
@@ -35,7 +30,7 @@ pub fn root_double(s: &mut [u32; 32], d: Double, m: Double)
 
 pub fn root_singles(s: &mut [u32; 32], control: u32, d: Single, m: Single)
     requires { ⌜ (d .0 < 32) × (m .0 < 32) ⌝ }
-    ensures { λ _. ⌜ ((q : Machine) (v : List ℕ) → state (withS q (now (s .exit))) v ≡ after (iterationsOf binary32 control (d .0)) (monadicStep binary32 control (rootStep binary32 control) (d .0) (m .0)) (state (withS q (now (s .entry))) v)) ⌝ }
+    ensures { λ _. ⌜ Iterated (iterationsOf binary32 control (d .0)) (monadicStep binary32 control (rootStep binary32 control) (d .0) (m .0)) (now (s .entry)) (now (s .exit)) ⌝ }
 {
     let vector = Vector::new(control, false, d.0);
     let count = vector.iterations;
@@ -55,7 +50,7 @@ pub fn root_singles(s: &mut [u32; 32], control: u32, d: Single, m: Single)
 
 pub fn root_doubles(s: &mut [u32; 32], control: u32, d: Double, m: Double)
     requires { ⌜ (d .0 < 32) × (m .0 < 32) ⌝ }
-    ensures { λ _. ⌜ ((q : Machine) (v : List ℕ) → state (withS q (now (s .exit))) v ≡ after (iterationsOf binary64 control (d .0)) (monadicStep binary64 control (rootStep binary64 control) (d .0) (m .0)) (state (withS q (now (s .entry))) v)) ⌝ }
+    ensures { λ _. ⌜ Iterated (iterationsOf binary64 control (d .0)) (monadicStep binary64 control (rootStep binary64 control) (d .0) (m .0)) (now (s .entry)) (now (s .exit)) ⌝ }
 {
     let vector = Vector::new(control, true, d.0);
     let count = vector.iterations;

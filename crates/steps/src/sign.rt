@@ -1,13 +1,9 @@
 // Moves and sign changes: they work on the bits, flush nothing and keep NaNs.
 ghost use mathlib.Core.Path.{_≡_};
-ghost use mathlib.Core.List.{List};
-ghost use Prim.Native.Nat.{ℕ, _<_};
+ghost use Prim.Native.Nat.{_<_};
 ghost use lib.Ieee.{binary32, binary64};
-ghost use Rattle.machine.specs.declared.Machine.{Machine};
-ghost use Rattle.machine.specs.Machine.{withS};
-ghost use Rattle.machine.specs.Place.{state};
-ghost use Rattle.meaning.specs.Step.{step, after};
 ghost use Rattle.steps.specs.Vector.{iterationsOf, monadicStep};
+ghost use Rattle.steps.specs.Register.{Stepped, Iterated};
 ghost use Rattle.steps.specs.Sign.{changed, signStep};
 use super::vector::Vector;
 use machine::registers::Double;
@@ -19,33 +15,33 @@ use machine::registers::set_single;
 use machine::registers::set_words;
 
 // What becomes of the sign: VMOV, VABS, VNEG.
-pub enum Sign {
-    Kept,
-    Cleared,
-    Flipped,
+pub enum SignOperation {
+    Copy,
+    Absolute,
+    Negate,
 }
 
 // The word with the sign.
-pub fn change(sign: Sign, word: u32) -> u32
+pub fn change(sign: SignOperation, word: u32) -> u32
     ensures { λ r. ⌜ r ≡ changed sign word ⌝ }
 {
     match sign {
-        Sign::Kept => word,
-        Sign::Cleared => word % 0x8000_0000,
-        Sign::Flipped => std::num::wrapping_add_u32(word, 0x8000_0000),
+        SignOperation::Copy => word,
+        SignOperation::Absolute => word % 0x8000_0000,
+        SignOperation::Negate => std::num::wrapping_add_u32(word, 0x8000_0000),
     }
 }
 
-pub fn sign_single(s: &mut [u32; 32], sign: Sign, d: Single, m: Single)
-    ensures { λ _. ⌜ ((q : Machine) (v : List ℕ) → state (withS q (now (s .exit))) v ≡ step (signStep binary32 sign (d .0) (m .0)) (state (withS q (now (s .entry))) v)) ⌝ }
+pub fn sign_single(s: &mut [u32; 32], sign: SignOperation, d: Single, m: Single)
+    ensures { λ _. ⌜ Stepped (signStep binary32 sign (d .0) (m .0)) (now (s .entry)) (now (s .exit)) ⌝ }
 {
     let word = get_single(s, m);
     set_single(s, d, change(sign, word));
 }
 
 // The sign is in the high word.
-pub fn sign_double(s: &mut [u32; 32], sign: Sign, d: Double, m: Double)
-    ensures { λ _. ⌜ ((q : Machine) (v : List ℕ) → state (withS q (now (s .exit))) v ≡ step (signStep binary64 sign (d .0) (m .0)) (state (withS q (now (s .entry))) v)) ⌝ }
+pub fn sign_double(s: &mut [u32; 32], sign: SignOperation, d: Double, m: Double)
+    ensures { λ _. ⌜ Stepped (signStep binary64 sign (d .0) (m .0)) (now (s .entry)) (now (s .exit)) ⌝ }
 {
     let words = get_words(s, m);
     let high = change(sign, words.high);
@@ -59,9 +55,9 @@ pub fn sign_double(s: &mut [u32; 32], sign: Sign, d: Double, m: Double)
     );
 }
 
-pub fn sign_singles(s: &mut [u32; 32], control: u32, sign: Sign, d: Single, m: Single)
+pub fn sign_singles(s: &mut [u32; 32], control: u32, sign: SignOperation, d: Single, m: Single)
     requires { ⌜ (d .0 < 32) × (m .0 < 32) ⌝ }
-    ensures { λ _. ⌜ ((q : Machine) (v : List ℕ) → state (withS q (now (s .exit))) v ≡ after (iterationsOf binary32 control (d .0)) (monadicStep binary32 control (signStep binary32 sign) (d .0) (m .0)) (state (withS q (now (s .entry))) v)) ⌝ }
+    ensures { λ _. ⌜ Iterated (iterationsOf binary32 control (d .0)) (monadicStep binary32 control (signStep binary32 sign) (d .0) (m .0)) (now (s .entry)) (now (s .exit)) ⌝ }
 {
     let vector = Vector::new(control, false, d.0);
     let count = vector.iterations;
@@ -79,9 +75,9 @@ pub fn sign_singles(s: &mut [u32; 32], control: u32, sign: Sign, d: Single, m: S
     }
 }
 
-pub fn sign_doubles(s: &mut [u32; 32], control: u32, sign: Sign, d: Double, m: Double)
+pub fn sign_doubles(s: &mut [u32; 32], control: u32, sign: SignOperation, d: Double, m: Double)
     requires { ⌜ (d .0 < 32) × (m .0 < 32) ⌝ }
-    ensures { λ _. ⌜ ((q : Machine) (v : List ℕ) → state (withS q (now (s .exit))) v ≡ after (iterationsOf binary64 control (d .0)) (monadicStep binary64 control (signStep binary64 sign) (d .0) (m .0)) (state (withS q (now (s .entry))) v)) ⌝ }
+    ensures { λ _. ⌜ Iterated (iterationsOf binary64 control (d .0)) (monadicStep binary64 control (signStep binary64 sign) (d .0) (m .0)) (now (s .entry)) (now (s .exit)) ⌝ }
 {
     let vector = Vector::new(control, true, d.0);
     let count = vector.iterations;

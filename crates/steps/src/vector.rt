@@ -3,7 +3,7 @@ ghost use mathlib.Core.Path.{_≡_};
 ghost use mathlib.Core.Bool.{cond};
 ghost use lib.Dec.{ltb};
 ghost use Prim.Native.Nat.{_≤_};
-ghost use Rattle.steps.specs.Vector.{precision, bankOf, iterationsOf, strideOf, stepOf, secondOf, Vectored, Steps};
+ghost use Rattle.steps.specs.Vector.{precision, bankOf, iterationsOf, strideOf, stepOf, secondOf, Vectored, Steppable};
 
 pub struct Vector {
     pub iterations: usize,
@@ -26,7 +26,7 @@ impl Vector {
 
     // The register of an iteration: it stays in its bank.
     pub fn step(self, register: usize, iteration: usize) -> usize
-        requires { ⌜ Steps self register iteration ⌝ }
+        requires { ⌜ Steppable self register iteration ⌝ }
         ensures { λ r. ⌜ r ≡ stepOf (self .bank) (self .stride) register iteration ⌝ }
     {
         let bank = self.bank;
@@ -36,7 +36,7 @@ impl Vector {
 
     // The register m of an iteration: in bank 0 it stays.
     pub fn second(self, register: usize, iteration: usize) -> usize
-        requires { ⌜ Steps self register iteration ⌝ }
+        requires { ⌜ Steppable self register iteration ⌝ }
         ensures { λ r. ⌜ r ≡ secondOf (self .bank) (self .stride) register iteration ⌝ }
     {
         if register < self.bank {

@@ -3,38 +3,19 @@ use denote.Ref.{now}
 use lib.Ieee.{binary64}
 use mathlib.Core.Path.{sym}
 use borrow.Author.Needs.{needs}
-use Rattle.steps.proofs.Steps.{arithmetic-step}
-use Rattle.machine.specs.Place.{state}
 use Rattle.machine.specs.Machine.{withS}
+use Rattle.machine.specs.Place.{state}
+use Rattle.steps.proofs.Steps.{arithmetic-step}
 use Rattle.steps.proofs.arithmetic.arithmetic_double.Statement.{statement}
 use Rattle.steps.proofs.arithmetic.arithmetic_double.Tie as tie
-
-get-double-requires : tie.Need-get-double-requires
-get-double-requires c κs = search needs
-
-get-double-requires-2 : tie.Need-get-double-requires-2
-get-double-requires-2 c κs = search needs
-
-get-double-requires-3 : tie.Need-get-double-requires-3
-get-double-requires-3 c κs = search needs
-
-arithmetic64-requires : tie.Need-arithmetic64-requires
-arithmetic64-requires c κs = search needs
-
-set-double-requires : tie.Need-set-double-requires
-set-double-requires c κs = search needs
-
-returns : tie.Need-returns
-returns c = λ q v. rw (c .set-double .ensures, c .before .before .arithmetic64 .ensures, c .before .before .before .before .before .before .before .get-double .ensures, c .before .before .before .before .before .get-double2 .ensures, c .before .before .before .get-double3 .ensures)
-    (sym (arithmetic-step binary64 (c .before .before .before .before .before .before .before .before .before .args .control) (c .before .before .before .before .before .before .before .before .before .args .kind) (c .before .before .before .before .before .before .before .before .before .args .d .0) (c .before .before .before .before .before .before .before .before .before .args .n .0) (c .before .before .before .before .before .before .before .before .before .args .m .0) (state (withS q (now (c .before .before .before .before .before .before .before .before .before .args .s))) v)))
 
 pub arithmetic-double-spec : {M : Type 1} → statement M
 arithmetic-double-spec =
     tie.close
     (tie.spec
-    get-double-requires
-    get-double-requires-2
-    get-double-requires-3
-    arithmetic64-requires
-    set-double-requires
-    returns)
+    (λ c κs. search needs)
+    (λ c κs. search needs)
+    (λ c κs. search needs)
+    (λ c κs. search needs)
+    (λ c κs. search needs)
+    (λ c q v. let a = c .before .before .before .before .before .before .before .before .before .args in rw (c .set-double .ensures, c .before .before .arithmetic64 .ensures, c .before .before .before .before .before .before .before .get-double .ensures, c .before .before .before .before .before .get-double2 .ensures, c .before .before .before .get-double3 .ensures) (sym (arithmetic-step binary64 (a .control) (a .kind) (a .d .0) (a .n .0) (a .m .0) (state (withS q (now (a .s))) v)))))

@@ -4,18 +4,11 @@ use Rattle.numbers.proofs.Flags.{flags-lt}
 use Rattle.steps.proofs.compare.compare_double_zero.Statement.{statement}
 use Rattle.steps.proofs.compare.compare_double_zero.Tie as tie
 
-get-double-requires : tie.Need-get-double-requires
-get-double-requires c κs = search needs
-
-compare64-requires : tie.Need-compare64-requires
-compare64-requires c κs = search needs
-
-with-flags-requires : tie.Need-with-flags-requires
-with-flags-requires c κs = rw (c .compare64 .ensures) (flags-lt _ _ _)
-
-returns : tie.Need-returns
-returns c = λ q v. rw (c .with-flags .ensures, c .before .compare64 .ensures, c .before .before .get-double .ensures)
-
 pub compare-double-zero-spec : {M : Type 1} → statement M
 compare-double-zero-spec =
-    tie.close (tie.spec get-double-requires compare64-requires with-flags-requires returns)
+    tie.close
+    (tie.spec
+    (λ c κs. search needs)
+    (λ c κs. search needs)
+    (λ c κs. rw (c .compare64 .ensures) (flags-lt _ _ _))
+    (λ c q v. rw (c .with-flags .ensures, c .before .compare64 .ensures, c .before .before .get-double .ensures)))
