@@ -13,7 +13,8 @@ use Rattle.steps.specs.Register.{Stepped, SteppedWith, Iterated}
 use Rattle.steps.specs.Sign.{signStep}
 use Rattle.steps.specs.Root.{rootStep}
 use Rattle.steps.specs.Compare.{compareStep, compareZeroStep}
-use Rattle.steps.specs.Convert.{widenStep, narrowStep, fromStep, truncateStep, roundStep}
+use Rattle.conversions.specs.Width.{widenStep, narrowStep}
+use Rattle.conversions.specs.Integer.{fromStep, truncateStep, roundStep}
 use Rattle.processing.specs.Fields.{regD, regM}
 use Rattle.processing.specs.Operation.{extensionBy}
 use Rattle.processing.specs.Data.{operationTree, monadic, extensionTree, integerTree, Handled}

@@ -24,7 +24,7 @@ use Rattle.processing.specs.Fields.{regD, regN, regM, kindOf, kinds, ari
 use Rattle.processing.specs.Operation.{undefined, extensionBy, arithmetics, operationBy, operationOf}
 use Rattle.steps.specs.Arithmetic.{dyadicStep}
 use Rattle.steps.specs.Compare.{compareStep, compareZeroStep}
-use Rattle.steps.specs.Convert.{fromStep}
+use Rattle.conversions.specs.Integer.{fromStep}
 use Rattle.processing.specs.Data.{stepping, dyadic, monadic, undefinedTree, operationTree, dataTree, extensionTree, wordTree, dyadicTree, integerTree, Handled}
 
 module _ (w : ℕ) (s s′ : List ℕ) (fpscr : ℕ) (t : Bool → Tree) where

@@ -14,19 +14,19 @@ use super::fields::single_d;
 use super::fields::single_m;
 use bits::field::bit;
 use bits::field::bits;
+use conversions::integer::from_integer_double;
+use conversions::integer::round_double;
+use conversions::integer::truncate_double;
+use conversions::width::narrow_double;
 use steps::arithmetic::arithmetic_doubles;
 use steps::compare::compare_double;
 use steps::compare::compare_double_zero;
-use steps::convert::from_integer_double;
-use steps::convert::narrow_double;
-use steps::convert::round_double;
-use steps::convert::truncate_double;
 use steps::root::root_doubles;
 use steps::sign::SignOperation;
 use steps::sign::sign_doubles;
 
 // Bits 23, 21, 20 and 6 tell the arithmetic from the extension group.
-pub fn process_double(s: &mut [u32; 32], fpscr: u32, op: u32) -> Processed
+pub(crate) fn process_double(s: &mut [u32; 32], fpscr: u32, op: u32) -> Processed
     ensures { λ r. ⌜ Handled (wordTree binary64 op) op (now (s .entry)) fpscr (now (s .exit)) r ⌝ }
 {
     let k = kind(op);
@@ -50,7 +50,7 @@ fn dyadic_double(s: &mut [u32; 32], fpscr: u32, op: u32, k: u32) -> Processed
 }
 
 // Unary operations, comparisons and conversions.
-pub fn extension_double(s: &mut [u32; 32], fpscr: u32, op: u32) -> Processed
+fn extension_double(s: &mut [u32; 32], fpscr: u32, op: u32) -> Processed
     ensures { λ r. ⌜ Handled (extensionTree binary64 op) op (now (s .entry)) fpscr (now (s .exit)) r ⌝ }
 {
     let opc2 = bits(op, 16, 19);

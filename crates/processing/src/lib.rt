@@ -1,7 +1,7 @@
 // Data processing over lent singles: the arithmetic and the extension group, in both precisions.
-pub mod double;
+mod double;
 pub mod fields;
-pub mod single;
+mod single;
 
 ghost use mathlib.Core.Path.{_≡_};
 ghost use Rattle.processing.specs.Data.{dataTree, Handled};

@@ -13,19 +13,19 @@ use super::fields::single_m;
 use super::fields::single_n;
 use bits::field::bit;
 use bits::field::bits;
+use conversions::integer::from_integer_single;
+use conversions::integer::round_single;
+use conversions::integer::truncate_single;
+use conversions::width::widen_single;
 use steps::arithmetic::arithmetic_singles;
 use steps::compare::compare_single;
 use steps::compare::compare_single_zero;
-use steps::convert::from_integer_single;
-use steps::convert::round_single;
-use steps::convert::truncate_single;
-use steps::convert::widen_single;
 use steps::root::root_singles;
 use steps::sign::SignOperation;
 use steps::sign::sign_singles;
 
 // Bits 23, 21, 20 and 6 tell the arithmetic from the extension group.
-pub fn process_single(s: &mut [u32; 32], fpscr: u32, op: u32) -> Processed
+pub(crate) fn process_single(s: &mut [u32; 32], fpscr: u32, op: u32) -> Processed
     ensures { λ r. ⌜ Handled (wordTree binary32 op) op (now (s .entry)) fpscr (now (s .exit)) r ⌝ }
 {
     let k = kind(op);
@@ -49,7 +49,7 @@ fn dyadic_single(s: &mut [u32; 32], fpscr: u32, op: u32, k: u32) -> Processed
 }
 
 // Unary operations, comparisons and conversions.
-pub fn extension_single(s: &mut [u32; 32], fpscr: u32, op: u32) -> Processed
+fn extension_single(s: &mut [u32; 32], fpscr: u32, op: u32) -> Processed
     ensures { λ r. ⌜ Handled (extensionTree binary32 op) op (now (s .entry)) fpscr (now (s .exit)) r ⌝ }
 {
     let opc2 = bits(op, 16, 19);

@@ -18,7 +18,8 @@ use Rattle.steps.specs.Sign.{signStep}
 use Rattle.steps.specs.Arithmetic.{operands, arithmeticStep}
 use Rattle.steps.specs.Root.{rootStep}
 use Rattle.steps.specs.Compare.{compareStep, compareZeroStep}
-use Rattle.steps.specs.Convert.{widenStep, narrowStep, fromStep, truncateStep, roundStep}
+use Rattle.conversions.specs.Width.{widenStep, narrowStep}
+use Rattle.conversions.specs.Integer.{fromStep, truncateStep, roundStep}
 use Rattle.steps.proofs.Loop.{Repeats}
 use Rattle.processing_marks.specs.Marked.{MarksStepped, MarksIterated, flagged}
 use Rattle.processing_marks.specs.Register.{knownIn, allIn, markIn, copyIn}

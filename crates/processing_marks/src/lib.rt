@@ -1,6 +1,6 @@
 // The marks of data processing, over lent marks: the watched run's half beside crate processing.
-pub mod register;
-pub mod vector;
+mod register;
+mod vector;
 
 ghost use mathlib.Core.Path.{_≡_};
 ghost use mathlib.Core.Bool.{Bool};

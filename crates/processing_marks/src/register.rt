@@ -17,7 +17,7 @@ use processing::fields::single_d;
 use processing::fields::single_m;
 use processing::fields::single_n;
 
-pub fn known(ks: &[bool; 32], double: bool, n: usize) -> bool
+pub(crate) fn known(ks: &[bool; 32], double: bool, n: usize) -> bool
     ensures { λ b. ⌜ b ≡ knownIn (precision double) (now (ks .entry)) n ⌝ }
 {
     if double {
@@ -28,7 +28,7 @@ pub fn known(ks: &[bool; 32], double: bool, n: usize) -> bool
     ks[i]
 }
 
-pub fn mark(ks: &mut [bool; 32], double: bool, n: usize, b: bool)
+pub(crate) fn mark(ks: &mut [bool; 32], double: bool, n: usize, b: bool)
     ensures { λ _. ⌜ now (ks .exit) ≡ markIn (precision double) (now (ks .entry)) n b ⌝ }
 {
     if double {
@@ -42,7 +42,7 @@ pub fn mark(ks: &mut [bool; 32], double: bool, n: usize, b: bool)
 }
 
 // Word by word.
-pub fn copy(ks: &mut [bool; 32], double: bool, d: usize, m: usize)
+pub(crate) fn copy(ks: &mut [bool; 32], double: bool, d: usize, m: usize)
     ensures { λ _. ⌜ now (ks .exit) ≡ copyIn (precision double) (now (ks .entry)) d m ⌝ }
 {
     if double {
@@ -61,7 +61,7 @@ pub fn copy(ks: &mut [bool; 32], double: bool, d: usize, m: usize)
 }
 
 // Whether the operands of the arithmetic are known: old d counts for an accumulate alone.
-pub fn operands_known(
+pub(crate) fn operands_known(
     ks: &[bool; 32],
     double: bool,
     kind: Arithmetic,
@@ -78,7 +78,7 @@ pub fn operands_known(
 }
 
 // The registers that a word names.
-pub fn reg_d(op: u32, double: bool) -> usize
+pub(crate) fn reg_d(op: u32, double: bool) -> usize
     ensures { λ n. ⌜ (n ≡ regD (precision double) op) × (n < 32) ⌝ }
 {
     if double {
@@ -89,7 +89,7 @@ pub fn reg_d(op: u32, double: bool) -> usize
     x.0
 }
 
-pub fn reg_n(op: u32, double: bool) -> usize
+pub(crate) fn reg_n(op: u32, double: bool) -> usize
     ensures { λ n. ⌜ (n ≡ regN (precision double) op) × (n < 32) ⌝ }
 {
     if double {
@@ -100,7 +100,7 @@ pub fn reg_n(op: u32, double: bool) -> usize
     x.0
 }
 
-pub fn reg_m(op: u32, double: bool) -> usize
+pub(crate) fn reg_m(op: u32, double: bool) -> usize
     ensures { λ n. ⌜ (n ≡ regM (precision double) op) × (n < 32) ⌝ }
 {
     if double {

@@ -14,7 +14,7 @@ use numbers::arithmetic::Arithmetic;
 use steps::vector::Vector;
 
 // Arithmetic: the target is known when every word read is.
-pub fn mark_arithmetic(
+pub(crate) fn mark_arithmetic(
     ks: &mut [bool; 32],
     control: u32,
     double: bool,
@@ -46,7 +46,7 @@ pub fn mark_arithmetic(
 }
 
 // Moves and sign changes: the marks are copied.
-pub fn mark_sign(ks: &mut [bool; 32], control: u32, double: bool, d: usize, m: usize)
+pub(crate) fn mark_sign(ks: &mut [bool; 32], control: u32, double: bool, d: usize, m: usize)
     requires { ⌜ (d < 32) × (m < 32) ⌝ }
     ensures { λ _. ⌜ ((sign : SignOperation) → MarksIterated (iterationsOf (precision double) control d) (monadicStep (precision double) control (signStep (precision double) sign) d m) (now (ks .entry)) (now (ks .exit))) ⌝ }
 {
@@ -67,7 +67,7 @@ pub fn mark_sign(ks: &mut [bool; 32], control: u32, double: bool, d: usize, m: u
 }
 
 // Roots: the target is known when every word of the operand is.
-pub fn mark_root(ks: &mut [bool; 32], control: u32, double: bool, d: usize, m: usize)
+pub(crate) fn mark_root(ks: &mut [bool; 32], control: u32, double: bool, d: usize, m: usize)
     requires { ⌜ (d < 32) × (m < 32) ⌝ }
     ensures { λ _. ⌜ MarksIterated (iterationsOf (precision double) control d) (monadicStep (precision double) control (rootStep (precision double) control) d m) (now (ks .entry)) (now (ks .exit)) ⌝ }
 {

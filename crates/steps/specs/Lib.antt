@@ -5,4 +5,3 @@ pub mod Arithmetic
 pub mod Sign
 pub mod Root
 pub mod Compare
-pub mod Convert

@@ -18,7 +18,7 @@ use numbers::arithmetic::applied64;
 use numbers::arithmetic::arithmetic32;
 use numbers::arithmetic::arithmetic64;
 
-pub fn arithmetic_single(
+fn arithmetic_single(
     s: &mut [u32; 32],
     control: u32,
     kind: Arithmetic,
@@ -35,7 +35,7 @@ pub fn arithmetic_single(
     set_single(s, d, x);
 }
 
-pub fn arithmetic_double(
+fn arithmetic_double(
     s: &mut [u32; 32],
     control: u32,
     kind: Arithmetic,
@@ -53,7 +53,7 @@ pub fn arithmetic_double(
 }
 
 // A step where results are stored as they are.
-pub fn unflushed_single(s: &mut [u32; 32], kind: Arithmetic, d: Single, n: Single, m: Single)
+fn unflushed_single(s: &mut [u32; 32], kind: Arithmetic, d: Single, n: Single, m: Single)
     ensures { λ _. ⌜ ((control : ℕ) → control / 2 ^ 24 % 2 ≡ 0 → Stepped (arithmeticStep binary32 control kind (d .0) (n .0) (m .0)) (now (s .entry)) (now (s .exit))) ⌝ }
 {
     let a = get_single(s, n);
@@ -64,7 +64,7 @@ pub fn unflushed_single(s: &mut [u32; 32], kind: Arithmetic, d: Single, n: Singl
 }
 
 // The iterations where results are stored as they are.
-pub fn unflushed_singles(
+fn unflushed_singles(
     s: &mut [u32; 32],
     control: u32,
     kind: Arithmetic,
@@ -127,7 +127,7 @@ pub fn arithmetic_singles(
 }
 
 // A step where results are stored as they are.
-pub fn unflushed_double(s: &mut [u32; 32], kind: Arithmetic, d: Double, n: Double, m: Double)
+fn unflushed_double(s: &mut [u32; 32], kind: Arithmetic, d: Double, n: Double, m: Double)
     ensures { λ _. ⌜ ((control : ℕ) → control / 2 ^ 24 % 2 ≡ 0 → Stepped (arithmeticStep binary64 control kind (d .0) (n .0) (m .0)) (now (s .entry)) (now (s .exit))) ⌝ }
 {
     let a = get_double(s, n);
@@ -138,7 +138,7 @@ pub fn unflushed_double(s: &mut [u32; 32], kind: Arithmetic, d: Double, n: Doubl
 }
 
 // The iterations where results are stored as they are.
-pub fn unflushed_doubles(
+fn unflushed_doubles(
     s: &mut [u32; 32],
     control: u32,
     kind: Arithmetic,

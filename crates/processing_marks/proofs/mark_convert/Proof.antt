@@ -4,7 +4,7 @@ use mathlib.Core.Path.{refl, sym}
 use denote.Ref.{now}
 use borrow.Author.Needs.{needs}
 use Rattle.processing_marks.specs.Marked.{convertTree}
-use Rattle.steps.specs.Convert.{narrowStep, widenStep}
+use Rattle.conversions.specs.Width.{narrowStep, widenStep}
 use Rattle.processing.specs.Fields.{regD, regM}
 use Rattle.processing_marks.proofs.Done.{once-marked}
 use Rattle.processing_marks.proofs.Steps.{narrow-marks, widen-marks}

@@ -8,7 +8,7 @@ use Rattle.processing_marks.proofs.Steps.{compare-marks, compare-zero-m
 use Rattle.processing.proofs.Done.{extension-is, compare-either, compare-zero-either, from-either, unsigned-either, signed-either, extension-none}
 use Rattle.steps.specs.Root.{rootStep}
 use Rattle.steps.specs.Compare.{compareStep, compareZeroStep}
-use Rattle.steps.specs.Convert.{fromStep}
+use Rattle.conversions.specs.Integer.{fromStep}
 use Rattle.processing.specs.Fields.{regD, regM}
 use Rattle.processing.specs.Data.{extensionTree, integerTree, operationTree}
 use Rattle.processing.specs.Operation.{extensionBy}

@@ -4,7 +4,7 @@ use mathlib.Core.Bool.{true, false}
 use mathlib.Core.Path.{refl, sym}
 use denote.Ref.{now}
 use borrow.Author.Needs.{needs}
-use Rattle.steps.specs.Convert.{truncateStep, roundStep}
+use Rattle.conversions.specs.Integer.{truncateStep, roundStep}
 use Rattle.processing.specs.Fields.{regD, regM}
 use Rattle.processing.specs.Data.{integerTree}
 use Rattle.processing_marks.proofs.Done.{once-marked}

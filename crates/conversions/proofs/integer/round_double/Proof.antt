@@ -1,7 +1,7 @@
--- `steps::convert::round_double` meets its contract.
+-- `conversions::integer::round_double` meets its contract.
 use borrow.Author.Needs.{needs}
-use Rattle.steps.proofs.convert.round_double.Statement.{statement}
-use Rattle.steps.proofs.convert.round_double.Tie as tie
+use Rattle.conversions.proofs.integer.round_double.Statement.{statement}
+use Rattle.conversions.proofs.integer.round_double.Tie as tie
 
 pub round-double-spec : {M : Type 1} → statement M
 round-double-spec =

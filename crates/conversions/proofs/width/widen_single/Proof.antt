@@ -1,7 +1,7 @@
--- `steps::convert::widen_single` meets its contract.
+-- `conversions::width::widen_single` meets its contract.
 use borrow.Author.Needs.{needs}
-use Rattle.steps.proofs.convert.widen_single.Statement.{statement}
-use Rattle.steps.proofs.convert.widen_single.Tie as tie
+use Rattle.conversions.proofs.width.widen_single.Statement.{statement}
+use Rattle.conversions.proofs.width.widen_single.Tie as tie
 
 pub widen-single-spec : {M : Type 1} → statement M
 widen-single-spec =

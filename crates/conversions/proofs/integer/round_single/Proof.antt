@@ -1,7 +1,7 @@
--- `steps::convert::round_single` meets its contract.
+-- `conversions::integer::round_single` meets its contract.
 use borrow.Author.Needs.{needs}
-use Rattle.steps.proofs.convert.round_single.Statement.{statement}
-use Rattle.steps.proofs.convert.round_single.Tie as tie
+use Rattle.conversions.proofs.integer.round_single.Statement.{statement}
+use Rattle.conversions.proofs.integer.round_single.Tie as tie
 
 pub round-single-spec : {M : Type 1} → statement M
 round-single-spec =

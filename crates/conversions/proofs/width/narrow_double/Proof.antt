@@ -1,7 +1,7 @@
--- `steps::convert::narrow_double` meets its contract.
+-- `conversions::width::narrow_double` meets its contract.
 use borrow.Author.Needs.{needs}
-use Rattle.steps.proofs.convert.narrow_double.Statement.{statement}
-use Rattle.steps.proofs.convert.narrow_double.Tie as tie
+use Rattle.conversions.proofs.width.narrow_double.Statement.{statement}
+use Rattle.conversions.proofs.width.narrow_double.Tie as tie
 
 pub narrow-double-spec : {M : Type 1} → statement M
 narrow-double-spec =

@@ -1,7 +1,7 @@
--- `steps::convert::truncate_double` meets its contract.
+-- `conversions::integer::truncate_double` meets its contract.
 use borrow.Author.Needs.{needs}
-use Rattle.steps.proofs.convert.truncate_double.Statement.{statement}
-use Rattle.steps.proofs.convert.truncate_double.Tie as tie
+use Rattle.conversions.proofs.integer.truncate_double.Statement.{statement}
+use Rattle.conversions.proofs.integer.truncate_double.Tie as tie
 
 pub truncate-double-spec : {M : Type 1} → statement M
 truncate-double-spec =

@@ -1,7 +1,7 @@
--- `steps::convert::from_integer_single` meets its contract.
+-- `conversions::integer::from_integer_single` meets its contract.
 use borrow.Author.Needs.{needs}
-use Rattle.steps.proofs.convert.from_integer_single.Statement.{statement}
-use Rattle.steps.proofs.convert.from_integer_single.Tie as tie
+use Rattle.conversions.proofs.integer.from_integer_single.Statement.{statement}
+use Rattle.conversions.proofs.integer.from_integer_single.Tie as tie
 
 pub from-integer-single-spec : {M : Type 1} → statement M
 from-integer-single-spec =

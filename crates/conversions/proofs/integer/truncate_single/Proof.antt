@@ -1,7 +1,7 @@
--- `steps::convert::truncate_single` meets its contract.
+-- `conversions::integer::truncate_single` meets its contract.
 use borrow.Author.Needs.{needs}
-use Rattle.steps.proofs.convert.truncate_single.Statement.{statement}
-use Rattle.steps.proofs.convert.truncate_single.Tie as tie
+use Rattle.conversions.proofs.integer.truncate_single.Statement.{statement}
+use Rattle.conversions.proofs.integer.truncate_single.Tie as tie
 
 pub truncate-single-spec : {M : Type 1} → statement M
 truncate-single-spec =
