@@ -1,6 +1,6 @@
 -- The loops over a short vector, over the precision, the step and what it works on.
 use Prim.Native.Nat.{ℕ, _+_, _*_, _/_, _%_, _^_, _<_, _≤_}
-use native.Mathlib.Nat.{mul-le-mul, add-mul}
+use native.Mathlib.Nat.{mul-le-mul, add-mul, div-mul-le-self, mod-lt}
 use native.Mathlib.Omega.{arith}
 use mathlib.Core.Path.{_≡_, refl, sym, subst, _∙_}
 use mathlib.Core.Bool.{Bool, true, false, cond}
@@ -197,3 +197,7 @@ onSingles =
 -- a distance of at most seven strides
 pub small : (i s : ℕ) → i < 8 → s ≤ 2 → i * s ≤ 14
 small i s h g = omega (arith, mul-le-mul {n₁ = i} {m₁ = s} {n₂ = 7} {m₂ = 2} (omega arith) g)
+
+-- a bank's first register and a register's place in a bank
+pub step-small : (r bank x : ℕ) → r < 32 → 0 < bank → bank ≤ 8 → r / bank * bank + x % bank < 2 ^ 64
+step-small r bank x h some few = omega (arith, div-mul-le-self r bank, mod-lt x some)
