@@ -7,7 +7,7 @@ use Rattle.machine.specs.Place.{control, sWord}
 use Rattle.numbers.specs.declared.rounding.Rounding.the-variants.{Zero}
 use Rattle.numbers.specs.Integer.{fromInteger, toInteger}
 use Rattle.numbers.specs.Rounding.{roundingOf}
-use Rattle.meaning.specs.Step.{Write, Step, fst, rest}
+use Rattle.meaning.specs.Step.{Step, fst, rest}
 use Rattle.steps.specs.Register.{wordsOf, valuesOf, written}
 
 -- an integer stands in a single

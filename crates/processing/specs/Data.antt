@@ -11,7 +11,7 @@ use Rattle.machine.specs.Machine.{withS, withFpscr}
 use Rattle.machine.specs.Place.{core, control, state}
 use Rattle.numbers.specs.declared.arithmetic.Arithmetic.{Arithmetic}
 use Rattle.numbers.specs.declared.arithmetic.Arithmetic.the-variants.{MultiplyAccumulate, MultiplySubtract, NegateMultiplySubtract, NegateMultiplyAccumulate, Multiply, NegateMultiply, Add, Subtract, Divide}
-use Rattle.meaning.specs.Step.{Step, Act, once}
+use Rattle.meaning.specs.Step.{Step, once}
 use Rattle.meaning.specs.Stop as Stop
 use Rattle.meaning.specs.Tree.{Tree, stop, go, ask, out, on, plain}
 use Rattle.steps.specs.declared.sign.SignOperation.the-variants.{Copy, Absolute, Negate}

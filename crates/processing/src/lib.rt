@@ -3,7 +3,6 @@ mod double;
 pub mod fields;
 mod single;
 
-ghost use mathlib.Core.Path.{_≡_};
 ghost use Rattle.processing.specs.Data.{dataTree, Handled};
 use bits::field::bits;
 use double::process_double;

@@ -1,6 +1,4 @@
 // The words of coprocessor 10, in single precision.
-ghost use mathlib.Core.Path.{_≡_};
-ghost use Prim.Native.Nat.{_<_};
 ghost use lib.Ieee.{binary32};
 ghost use Rattle.processing.specs.declared.Processed.the-variants.{Done};
 ghost use Rattle.processing.specs.Data.{Handled, extensionTree, wordTree, dyadicTree, integerTree};

@@ -1,9 +1,6 @@
 // The marks of a register: of a single its own, of a double those of both words. `double` says which numbering a number is of.
 ghost use mathlib.Core.Path.{_≡_};
-ghost use mathlib.Core.Bool.{cond};
-ghost use mathlib.Core.List.{[], _∷_};
 ghost use Prim.Native.Nat.{_<_};
-ghost use Rattle.numbers.specs.Arithmetic.{accumulates};
 ghost use Rattle.steps.specs.Vector.{precision};
 ghost use Rattle.steps.specs.Arithmetic.{operands};
 ghost use Rattle.processing.specs.Fields.{regD, regN, regM};

@@ -4,7 +4,7 @@ use mathlib.Core.List.{[], _∷_}
 use lib.Ieee.{Format}
 use Rattle.machine.specs.Place.{flags}
 use Rattle.numbers.specs.Compare.{compareFlags}
-use Rattle.meaning.specs.Step.{Write, Step, fst, snd}
+use Rattle.meaning.specs.Step.{Step, fst, snd}
 use Rattle.steps.specs.Register.{wordsOf, valuesOf}
 
 -- a compare sets FPSCR 31:28 alone

@@ -3,7 +3,7 @@ ghost use mathlib.Core.Path.{_≡_};
 ghost use mathlib.Core.Bool.{cond};
 ghost use lib.Dec.{ltb};
 ghost use Prim.Native.Nat.{_≤_};
-ghost use Rattle.steps.specs.Vector.{precision, bankOf, iterationsOf, strideOf, stepOf, secondOf, Vectored, Steppable};
+ghost use Rattle.steps.specs.Vector.{precision, bankOf, strideOf, stepOf, secondOf, Vectored, Steppable};
 
 pub struct Vector {
     pub iterations: usize,
