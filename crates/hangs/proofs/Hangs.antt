@@ -15,7 +15,8 @@ use Rattle.meaning.specs.Hang.{Hang, clear, at, hangOf}
 use Rattle.processing.specs.Operation as O
 use Rattle.processing.specs.Operation.{Operation, extensionBy, operationOf}
 use Rattle.meaning.proofs.Laws.{clear-go}
-use Rattle.processing.specs.Data.{regD, stepping, undefinedTree, operationTree, extensionTree, dataTree}
+use Rattle.processing.specs.Fields.{regD}
+use Rattle.processing.specs.Data.{stepping, undefinedTree, operationTree, extensionTree, dataTree}
 use Rattle.memory.specs.LoadStore.{accessTree, loadStoreTree}
 use Rattle.transfers.specs.declared.Transfer.{Transfer}
 use Rattle.transfers.specs.declared.Transfer.the-variants.{System, Single, Nothing}
