@@ -52,9 +52,9 @@ extern "C" {
 
 /* Tested first, touching nothing: a state, marks or an answer of another length, a bit of the state outside a place's own, a mark of
  * places 0 to 51 or a thumb that is neither 0 nor 1. */
-#define FPU_USELESS 255
+#define FPU_INVALID_ARGUMENT 255
 
-/* Makes the state a new machine's: all zero but FPEXC, 0x40000000. Gives FPU_FINISHED, or FPU_USELESS where it has not 52 words. */
+/* Makes the state a new machine's: all zero but FPEXC, 0x40000000. Gives FPU_FINISHED, or FPU_INVALID_ARGUMENT where it has not 52 words. */
 uint32_t fpu_new(uint32_t *state, size_t state_words);
 
 /* One instruction word each; none looks at the condition in bits 31:28. `thumb` is the Thumb bit of the machine. */
@@ -84,7 +84,7 @@ uint32_t fpu_watch(uint32_t *state, size_t state_words, uint8_t *marks, size_t m
                    uint8_t *window_marks, size_t window_marks_bytes, uint32_t base, uint32_t thumb, const uint32_t *list,
                    size_t list_words, uint32_t *answer, size_t answer_words);
 
-/* Whether an instruction of a condition (its low four bits) is executed under the flags of place 51: 1 or 0, or FPU_USELESS where
+/* Whether an instruction of a condition (its low four bits) is executed under the flags of place 51: 1 or 0, or FPU_INVALID_ARGUMENT where
  * another bit of nzcv is set. */
 uint32_t fpu_check_condition(uint32_t condition, uint32_t nzcv);
 

@@ -164,7 +164,7 @@ pub struct Ran {
 
 /// A state with a bit outside a place's own, or a mark that is neither 0 nor 1: nothing was done.
 #[derive(Clone, Copy, PartialEq, Eq, Debug)]
-pub struct NoMachine;
+pub struct InvalidArgument;
 
 /// A machine: the 52 words of its state, and its Thumb bit.
 #[derive(Clone, Copy, PartialEq, Eq, Debug)]
@@ -179,18 +179,18 @@ impl Default for Machine {
     }
 }
 
-fn exit(kind: u32, answer: [u32; ANSWER_WORDS]) -> Result<Exit, NoMachine> {
+fn exit(kind: u32, answer: [u32; ANSWER_WORDS]) -> Result<Exit, InvalidArgument> {
     match kind {
         0 => Ok(Exit::Nothing),
         2 => Ok(Exit::Undefined { address: answer[2], word: answer[3] }),
         3 => Ok(Exit::Branched),
         102..=104 => Ok(Exit::Refused((kind - 100) as u8)),
-        255 => Err(NoMachine),
+        255 => Err(InvalidArgument),
         _ => unreachable!("kind {kind}"),
     }
 }
 
-fn ran(kind: u32, answer: [u32; ANSWER_WORDS]) -> Result<Ran, NoMachine> {
+fn ran(kind: u32, answer: [u32; ANSWER_WORDS]) -> Result<Ran, InvalidArgument> {
     let stop = match kind {
         0 => Stop::Finished,
         1 => Stop::Foreign,
@@ -198,7 +198,7 @@ fn ran(kind: u32, answer: [u32; ANSWER_WORDS]) -> Result<Ran, NoMachine> {
         3 => Stop::Branched,
         4 => Stop::Hangs(answer[1]),
         101..=107 => Stop::Refused((kind - 100) as u8),
-        255 => return Err(NoMachine),
+        255 => return Err(InvalidArgument),
         _ => unreachable!("kind {kind}"),
     };
     Ok(Ran { stop, count: answer[0] })
@@ -212,22 +212,22 @@ impl Machine {
         Machine { state, thumb: false }
     }
 
-    pub fn data_processing(&mut self, word: u32) -> Result<Exit, NoMachine> {
+    pub fn data_processing(&mut self, word: u32) -> Result<Exit, InvalidArgument> {
         let mut answer = [0; ANSWER_WORDS];
         exit(raw::data_processing(&mut self.state, self.thumb as u32, word, &mut answer), answer)
     }
 
-    pub fn coprocessor_register(&mut self, word: u32) -> Result<Exit, NoMachine> {
+    pub fn coprocessor_register(&mut self, word: u32) -> Result<Exit, InvalidArgument> {
         let mut answer = [0; ANSWER_WORDS];
         exit(raw::coprocessor_register(&mut self.state, self.thumb as u32, word, &mut answer), answer)
     }
 
-    pub fn coprocessor_load_store(&mut self, window: &mut [u32], base: u32, word: u32) -> Result<Exit, NoMachine> {
+    pub fn coprocessor_load_store(&mut self, window: &mut [u32], base: u32, word: u32) -> Result<Exit, InvalidArgument> {
         let mut answer = [0; ANSWER_WORDS];
         exit(raw::coprocessor_load_store(&mut self.state, window, base, self.thumb as u32, word, &mut answer), answer)
     }
 
-    pub fn run(&mut self, window: &mut [u32], base: u32, list: &[u32]) -> Result<Ran, NoMachine> {
+    pub fn run(&mut self, window: &mut [u32], base: u32, list: &[u32]) -> Result<Ran, InvalidArgument> {
         let mut answer = [0; ANSWER_WORDS];
         ran(raw::run(&mut self.state, window, base, self.thumb as u32, list, &mut answer), answer)
     }
@@ -240,15 +240,15 @@ impl Machine {
         window_marks: &mut [u8],
         base: u32,
         list: &[u32],
-    ) -> Result<Ran, NoMachine> {
+    ) -> Result<Ran, InvalidArgument> {
         let mut answer = [0; ANSWER_WORDS];
         ran(raw::watch(&mut self.state, marks, window, window_marks, base, self.thumb as u32, list, &mut answer), answer)
     }
 
     /// whether an instruction of this condition, in its low four bits, is executed.
-    pub fn check_condition(&self, condition: u32) -> Result<bool, NoMachine> {
+    pub fn check_condition(&self, condition: u32) -> Result<bool, InvalidArgument> {
         match raw::check_condition(condition, self.state[51]) {
-            255 => Err(NoMachine),
+            255 => Err(InvalidArgument),
             held => Ok(held == 1),
         }
     }

@@ -1,6 +1,6 @@
 //! A few calls by the wrapper, and what 255 does.
 
-use fpu::{raw, Exit, Machine, NoMachine, Ran, Stop};
+use fpu::{raw, Exit, InvalidArgument, Machine, Ran, Stop};
 
 #[test]
 fn a_new_machine() {
@@ -70,7 +70,7 @@ fn what_255_touches() {
         let mut m = Machine::new();
         m.state[place] |= bit;
         let before = m;
-        assert_eq!(m.data_processing(0xEE30_0A81), Err(NoMachine));
+        assert_eq!(m.data_processing(0xEE30_0A81), Err(InvalidArgument));
         assert_eq!(m, before);
     }
     state[52] = 0;
@@ -86,7 +86,7 @@ fn conditions() {
     m.state[51] = 0x4000_0000;
     assert_eq!((m.check_condition(0), m.check_condition(1)), (Ok(true), Ok(false)));
     m.state[51] |= 1;
-    assert_eq!(m.check_condition(0), Err(NoMachine));
+    assert_eq!(m.check_condition(0), Err(InvalidArgument));
 }
 
 // a sum, its compare with zero, the flags to NZCV, and a sum where they are equal
@@ -119,6 +119,6 @@ fn a_watched_run() {
     assert_eq!(m.watch(&mut marks, &mut [5], &mut [2], 0, &LIST), Ok(Ran { stop: Stop::Refused(7), count: 0 }));
     assert_eq!((m, marks), (before, kept));
     marks[3] = 2;
-    assert_eq!(m.watch(&mut marks, &mut [5], &mut [2], 0, &LIST), Err(NoMachine));
+    assert_eq!(m.watch(&mut marks, &mut [5], &mut [2], 0, &LIST), Err(InvalidArgument));
     assert_eq!((m, marks[3]), (before, 2));
 }

@@ -17,7 +17,9 @@ use Rattle.meaning.specs.Stop.{Stop, foreign, Report, report, hangs, refused}
 use Rattle.meaning.specs.Tree.{Tree, stop, go, branch, ask, Next, on, last, halt, exitOf, plain, seen, watched}
 use Rattle.processing.specs.Operation.{Operation, operationOf, fmac, fnmac, fmsc, fnmsc, fmul, fnmul, fadd, fsub, fdiv, fcpy, fabs, fneg, fsqrt, fcmp, fcmpe, fcmpz, fcmpez, fcvt, fuito, fsito, ftoui, ftouiz, ftosi, ftosiz, undefined}
 use Rattle.processing.specs.Data.{operationTree, dataTree, undefinedTree}
-use Rattle.transfers.specs.Transfer.{transferTree, systemTree, singleTree}
+use Rattle.transfers.specs.declared.Transfer.{Transfer}
+use Rattle.transfers.specs.declared.Transfer.the-variants.{System, Single, Nothing}
+use Rattle.transfers.specs.Transfer.{transferTree, transferOf, transferBy, systemTree, singleTree}
 use Rattle.memory.specs.LoadStore.{accessTree, loadStoreTree}
 use Rattle.limits.specs.Limit.{runLimit}
 use Rattle.run.specs.Word.{foreignWord, classTree, conditioned, meaning}
@@ -97,7 +99,12 @@ near-nothing = refl
 
 near-transfer : (thumb : Bool) (w : ℕ) → Near (transferTree thumb w)
 unfolding transferTree
-near-transfer thumb w = either (eqb (field w 21 23) 7) _ _ (near-system w) (either (eqb (field w 21 23) 0) _ _ (near-single thumb w) near-nothing)
+near-transfer thumb w = by (transferOf w)
+  where
+    by : (t : Transfer) → Near (transferBy t thumb w)
+    by System = near-system w
+    by Single = near-single thumb w
+    by Nothing = near-nothing
 
 near-access : (f : Format) (base w : ℕ) → Near (accessTree f base w)
 unfolding accessTree Near

@@ -1,8 +1,7 @@
-pub mod Copied
+-- From what the calls and the runs promise to what the exported functions leave.
+pub mod Answer
 pub mod Calls
-pub mod Spelling
+pub mod Refused
 pub mod Bounds
 pub mod Runs
-pub mod Marked
 pub mod Watches
-pub mod Marking

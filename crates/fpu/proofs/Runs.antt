@@ -11,17 +11,17 @@ use Rattle.machine.specs.Place.{State, state}
 use Rattle.meaning.specs.Stop.{report}
 use Rattle.run.specs.declared.Ran.{Ran}
 use Rattle.run.specs.Run.{Reply, stopOf, answered}
-use Rattle.fpu.specs.Spelling.{spelling, spelled}
-use Rattle.fpu.specs.Left.{left, answerOf, useless, usable, ran}
+use Rattle.layout.specs.State.{encode, decode}
+use Rattle.fpu.specs.Outcome.{outcome, answerOf, invalidArgument, validCall, decodedState, ran}
 
-module _ (y : State → Reply) (l w a : List ℕ) (thumb : ℕ) (b : Bool) (u : b ≡ usable l thumb (length a)) where
-  pub not-run : not b ≡ true → left useless l w a ≡ ran y l w thumb a
+module _ (y : State → Reply) (l w a : List ℕ) (thumb : ℕ) (b : Bool) (u : b ≡ validCall l thumb (length a)) where
+  pub not-run : not b ≡ true → outcome invalidArgument l w a ≡ ran y l w thumb a
   not-run e = rw (← u, not-true b e)
 
-  pub has-run : (m : Machine) (x : Ran) (r : ℕ) (l′ w′ a′ : List ℕ) → not b ≡ false → m ≡ spelled (eqb thumb 1) l → answered x w′ ≡ y (state m w)
-      → l′ ≡ spelling (x .machine) → (r ≡ report (stopOf (x .stop)) .kind) × (a′ ≡ answerOf (x .count) (report (stopOf (x .stop))))
-      → left r l′ w′ a′ ≡ ran y l w thumb a
+  pub has-run : (m : Machine) (x : Ran) (r : ℕ) (l′ w′ a′ : List ℕ) → not b ≡ false → m ≡ decode (eqb thumb 1) l → answered x w′ ≡ y (state m w)
+      → l′ ≡ encode (x .machine) → (r ≡ report (stopOf (x .stop)) .kind) × (a′ ≡ answerOf (x .count) (report (stopOf (x .stop))))
+      → outcome r l′ w′ a′ ≡ ran y l w thumb a
   has-run m x r l′ w′ a′ e em ey el et = rw (← u, not-false b e, ← spoken, el, et .0, et .1)
     where
-      spoken : answered x w′ ≡ y (state (spelled (eqb thumb 1) l) w)
+      spoken : answered x w′ ≡ y (decodedState l w thumb)
       spoken = rw (← em) ey

@@ -1,5 +1,3 @@
 -- What the exported functions promise.
-pub mod Spelling
-pub mod Left
-pub mod Marking
-pub mod Observed
+pub mod Outcome
+pub mod WatchOutcome

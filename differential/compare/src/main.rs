@@ -14,7 +14,7 @@ struct Comparison {
     calls: u64,
     wrong: u64,
     conditions: u64,
-    useless: u64,
+    invalid: u64,
     theirs: Vec<u32>,
     ours: Vec<u32>,
     started: Instant,
@@ -125,7 +125,7 @@ fn conditions(c: &mut Comparison) {
 }
 
 /// what has to be 255 and touch nothing; the Rust has no such answer.
-fn useless(c: &mut Comparison, r: &mut Random) {
+fn invalid(c: &mut Comparison, r: &mut Random) {
     let (mut state, mut answer) = ([0; STATE], [0xA5A5_A5A5; 5]);
     for kind in 0..64 {
         cases::machine(r, &mut state, 0x1000, 4);
@@ -143,7 +143,7 @@ fn useless(c: &mut Comparison, r: &mut Random) {
         let (given, mut window) = (state, [r.word(); 3]);
         let kept = window;
         for call in 0..3 {
-            c.useless += 1;
+            c.invalid += 1;
             let word = r.word();
             let got = match call {
                 0 => fpu::raw::data_processing(&mut state[..words], thumb, word, &mut answer[..answers]),
@@ -173,14 +173,14 @@ fn main() {
         calls: 0,
         wrong: 0,
         conditions: 0,
-        useless: 0,
+        invalid: 0,
         theirs: Vec::new(),
         ours: Vec::new(),
         started: Instant::now(),
     };
     oracle::fill_rest(&mut c.cpu, || r.word());
     conditions(&mut c);
-    useless(&mut c, &mut r);
+    invalid(&mut c, &mut r);
     indices(&mut c, &mut r);
     let mut state = [0; STATE];
     let mut window = Vec::new();
@@ -211,7 +211,7 @@ fn main() {
     }
     println!("{:24} {:>12}", "in Thumb state", c.thumb);
     println!("{:24} {:>12}", "conditions", c.conditions);
-    println!("{:24} {:>12}", "255", c.useless);
+    println!("{:24} {:>12}", "255", c.invalid);
     println!("{:24} {:>12}", "calls", c.calls);
     println!("{:24} {:>12}", "disagreements", c.wrong);
     println!("{:24} {:>12}", "seconds", c.started.elapsed().as_secs());

@@ -3,30 +3,30 @@ use lib.ListN.{length}
 use borrow.Author.Needs.{needs}
 use Rattle.transfers.specs.Transfer.{transferTree}
 use Rattle.vfp.specs.Call.{reply}
-use Rattle.fpu.proofs.Calls.{usable-state, usable-answer, of-no-use, made}
+use Rattle.fpu.proofs.Calls.{valid-call-state, valid-call-answer, not-called, has-called}
 use Rattle.fpu.proofs.fpu_coprocessor_register.Statement.{statement}
 use Rattle.fpu.proofs.fpu_coprocessor_register.Tie as tie
 
-is-usable-requires : tie.Need-is-usable-requires
-is-usable-requires c κs = search needs
+is-valid-call-requires : tie.Need-is-valid-call-requires
+is-valid-call-requires c κs = search needs
 
 same-length : tie.Need-same-length
 same-length c = search needs
 
 returns : tie.Need-returns
-returns c = λ v. of-no-use (λ t. reply (transferTree t (c .before .before .before .before .before .args .word))) (c .before .before .before .before .before .args .state .now) v (c .before .before .before .before .before .args .answer .now) (c .before .before .before .before .before .args .thumb) (c .before .is-usable .result) (c .before .is-usable .ensures) (c .if1 .taken)
+returns c = λ v. not-called (λ t. reply (transferTree t (c .before .before .before .before .before .args .word))) (c .before .before .before .before .before .args .state .now) v (c .before .before .before .before .before .args .answer .now) (c .before .before .before .before .before .args .thumb) (c .before .is-valid-call .result) (c .before .is-valid-call .ensures) (c .if1 .taken)
 
-unpack-requires : tie.Need-unpack-requires
-unpack-requires c κs = usable-state (c .before .before .before .before .before .before .args .state .now) (c .before .before .before .before .before .before .args .thumb) (length (c .before .before .before .before .before .before .args .answer .now)) (c .before .before .is-usable .result) (c .before .before .is-usable .ensures) (c .before .if1 .left)
+decode-requires : tie.Need-decode-requires
+decode-requires c κs = valid-call-state (c .before .before .before .before .before .before .args .state .now) (c .before .before .before .before .before .before .args .thumb) (length (c .before .before .before .before .before .before .args .answer .now)) (c .before .before .is-valid-call .result) (c .before .before .is-valid-call .ensures) (c .before .if1 .left)
 
 coprocessor-register-requires : tie.Need-coprocessor-register-requires
 coprocessor-register-requires c κs = search needs
 
-pack-requires : tie.Need-pack-requires
-pack-requires c κs = usable-state (c .before .before .before .before .before .before .before .before .before .args .state .now) (c .before .before .before .before .before .before .before .before .before .args .thumb) (length (c .before .before .before .before .before .before .before .before .before .args .answer .now)) (c .before .before .before .before .before .is-usable .result) (c .before .before .before .before .before .is-usable .ensures) (c .before .before .before .before .if1 .left) .words
+encode-requires : tie.Need-encode-requires
+encode-requires c κs = valid-call-state (c .before .before .before .before .before .before .before .before .before .args .state .now) (c .before .before .before .before .before .before .before .before .before .args .thumb) (length (c .before .before .before .before .before .before .before .before .before .args .answer .now)) (c .before .before .before .before .before .is-valid-call .result) (c .before .before .before .before .before .is-valid-call .ensures) (c .before .before .before .before .if1 .left) .words
 
-tell-requires : tie.Need-tell-requires
-tell-requires c κs = usable-answer (c .before .before .before .before .before .before .before .before .before .before .before .before .before .args .state .now) (c .before .before .before .before .before .before .before .before .before .before .before .before .before .args .thumb) (length (c .before .before .before .before .before .before .before .before .before .before .before .before .before .args .answer .now)) (c .before .before .before .before .before .before .before .before .before .is-usable .result) (c .before .before .before .before .before .before .before .before .before .is-usable .ensures) (c .before .before .before .before .before .before .before .before .if1 .left)
+report-exit-requires : tie.Need-report-exit-requires
+report-exit-requires c κs = valid-call-answer (c .before .before .before .before .before .before .before .before .before .before .before .before .before .args .state .now) (c .before .before .before .before .before .before .before .before .before .before .before .before .before .args .thumb) (length (c .before .before .before .before .before .before .before .before .before .before .before .before .before .args .answer .now)) (c .before .before .before .before .before .before .before .before .before .is-valid-call .result) (c .before .before .before .before .before .before .before .before .before .is-valid-call .ensures) (c .before .before .before .before .before .before .before .before .if1 .left)
 
 same-length-2 : tie.Need-same-length-2
 same-length-2 c = search needs
@@ -35,19 +35,19 @@ same-length-3 : tie.Need-same-length-3
 same-length-3 c = search needs
 
 returns-2 : tie.Need-returns-2
-returns-2 c = λ v. made (λ t. reply (transferTree t (c .before .before .before .before .before .before .before .before .before .before .before .before .before .before .before .before .args .word))) (c .before .before .before .before .before .before .before .before .before .before .before .before .before .before .before .before .args .state .now) v (c .before .before .before .before .before .before .before .before .before .before .before .before .before .before .before .before .args .answer .now) (c .before .before .before .before .before .before .before .before .before .before .before .before .before .before .before .before .args .thumb) (c .before .before .before .before .before .before .before .before .before .before .before .before .is-usable .result) (c .before .before .before .before .before .before .before .before .before .before .before .before .is-usable .ensures) (c .before .before .before .before .before .before .before .before .before .unpack .result) (c .before .before .before .before .before .before .before .before .coprocessor-register .result) (c .before .before .tell .result) (c .before .before .before .before .before .before .pack .last .1 .0) v (c .before .before .tell .last .1 .0) (c .before .before .before .before .before .before .before .before .before .before .before .if1 .left) (c .before .before .before .before .before .before .before .before .before .unpack .ensures) (c .before .before .before .before .before .before .before .before .coprocessor-register .ensures v) (c .before .before .before .before .before .before .pack .ensures) (c .before .before .tell .ensures)
+returns-2 c = λ v. has-called (λ t. reply (transferTree t (c .before .before .before .before .before .before .before .before .before .before .before .before .before .before .before .before .args .word))) (c .before .before .before .before .before .before .before .before .before .before .before .before .before .before .before .before .args .state .now) v (c .before .before .before .before .before .before .before .before .before .before .before .before .before .before .before .before .args .answer .now) (c .before .before .before .before .before .before .before .before .before .before .before .before .before .before .before .before .args .thumb) (c .before .before .before .before .before .before .before .before .before .before .before .before .is-valid-call .result) (c .before .before .before .before .before .before .before .before .before .before .before .before .is-valid-call .ensures) (c .before .before .before .before .before .before .before .before .before .decode .result) (c .before .before .before .before .before .before .before .before .coprocessor-register .result) (c .before .before .report-exit .result) (c .before .before .before .before .before .before .encode .last .1 .0) v (c .before .before .report-exit .last .1 .0) (c .before .before .before .before .before .before .before .before .before .before .before .if1 .left) (c .before .before .before .before .before .before .before .before .before .decode .ensures) (c .before .before .before .before .before .before .before .before .coprocessor-register .ensures v) (c .before .before .before .before .before .before .encode .ensures) (c .before .before .report-exit .ensures)
 
 pub fpu-coprocessor-register-spec : {M : Type 1} → statement M
 fpu-coprocessor-register-spec =
     tie.close
     (tie.spec
-    is-usable-requires
+    is-valid-call-requires
     same-length
     returns
-    unpack-requires
+    decode-requires
     coprocessor-register-requires
-    pack-requires
-    tell-requires
+    encode-requires
+    report-exit-requires
     same-length-2
     same-length-3
     returns-2)

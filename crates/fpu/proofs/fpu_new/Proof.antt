@@ -10,14 +10,14 @@ returns c = rw (ne-eqb _ _ (c .if1 .taken))
 new-requires : tie.Need-new-requires
 new-requires c κs = search needs
 
-pack-requires : tie.Need-pack-requires
-pack-requires c κs = search needs
+encode-requires : tie.Need-encode-requires
+encode-requires c κs = search needs
 
 same-length : tie.Need-same-length
 same-length c = search needs
 
 returns-2 : tie.Need-returns-2
-returns-2 c = rw (eq-eqb _ _ (c .before .before .before .before .before .if1 .left), c .before .before .pack .ensures, c .before .before .before .before .new .ensures)
+returns-2 c = rw (eq-eqb _ _ (c .before .before .before .before .before .if1 .left), c .before .before .encode .ensures, c .before .before .before .before .new .ensures)
 
 pub fpu-new-spec : {M : Type 1} → statement M
-fpu-new-spec = tie.close (tie.spec returns new-requires pack-requires same-length returns-2)
+fpu-new-spec = tie.close (tie.spec returns new-requires encode-requires same-length returns-2)

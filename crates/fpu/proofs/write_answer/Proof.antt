@@ -1,7 +1,7 @@
 -- `fpu::write_answer` meets its contract.
 use mathlib.Core.Path.{refl}
 use borrow.Author.Needs.{needs}
-use Rattle.fpu.proofs.Copied.{four-words}
+use Rattle.fpu.proofs.Answer.{four-words}
 use Rattle.fpu.proofs.write_answer.Statement.{statement}
 use Rattle.fpu.proofs.write_answer.Tie as tie
 

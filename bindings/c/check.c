@@ -1,0 +1,401 @@
+/* Calls every function of libfpu.a by include/fpu.h: every kind of result, every refusal and every sort of invalid argument, with what
+ * the buffers hold afterwards. It prints a line for each difference and 'c: N passed, M failed'; it fails where anything differs. */
+#include "fpu.h"
+
+#include <stdio.h>
+#include <string.h>
+
+enum call { DATA_PROCESSING, COPROCESSOR_REGISTER, COPROCESSOR_LOAD_STORE, RUN, WATCH, CALLS };
+
+/* What is passed to a call; each buffer has an element more than a call may touch. */
+struct passed {
+    uint32_t state[FPU_STATE_WORDS + 1];
+    size_t state_words;
+    uint8_t marks[FPU_MARKS_BYTES + 1];
+    size_t marks_bytes;
+    uint32_t window[FPU_WINDOW_MOST_WORDS + 1];
+    size_t window_words;
+    uint8_t window_marks[FPU_WINDOW_MOST_WORDS + 1];
+    size_t window_marks_bytes;
+    uint32_t base, thumb, word;
+    uint32_t list[FPU_LIST_MOST_WORDS + 1];
+    size_t list_words;
+    uint32_t answer[FPU_ANSWER_WORDS + 1];
+    size_t answer_words;
+};
+
+static struct passed given, p;
+static int seen[256];
+static unsigned long good, bad;
+static const char *doing = "";
+
+static void same(const char *what, unsigned long got, unsigned long expected)
+{
+    if (got == expected) {
+        good++;
+        return;
+    }
+    bad++;
+    printf("differs: %s: %s is %lX, expected %lX\n", doing, what, got, expected);
+}
+
+static void same_bytes(const char *what, const void *got, const void *expected, size_t bytes)
+{
+    same(what, memcmp(got, expected, bytes) != 0, 0);
+}
+
+/* A result that is a kind, a refusal or an invalid argument; the end looks at which were seen. */
+static void result(uint32_t got, uint32_t expected)
+{
+    same("the result", got, expected);
+    if (got < 256)
+        seen[got] = 1;
+}
+
+/* A new machine in ARM state, all of it known, a window of four words, and an answer that has to be overwritten. */
+static void fresh(const char *name)
+{
+    doing = name;
+    memset(&p, 0, sizeof p);
+    p.state_words = FPU_STATE_WORDS;
+    p.state[FPU_STATE_WORDS] = 0x5A5A5A5A;
+    result(fpu_new(p.state, p.state_words), FPU_FINISHED);
+    p.marks_bytes = FPU_MARKS_BYTES;
+    memset(p.marks, 1, sizeof p.marks);
+    p.window_words = p.window_marks_bytes = 4;
+    memset(p.window_marks, 1, sizeof p.window_marks);
+    for (uint32_t i = 0; i < FPU_WINDOW_MOST_WORDS + 1; i++)
+        p.window[i] = 7 + i;
+    p.base = 0x8000;
+    p.answer_words = FPU_ANSWER_WORDS;
+    for (int i = 0; i < FPU_ANSWER_WORDS + 1; i++)
+        p.answer[i] = 0xA5A5A5A5;
+}
+
+static void list(const uint32_t *words, size_t count)
+{
+    memcpy(p.list, words, count * sizeof *words);
+    p.list_words = count;
+}
+
+static uint32_t made(enum call call)
+{
+    given = p;
+    switch (call) {
+    case DATA_PROCESSING:
+        return fpu_data_processing(p.state, p.state_words, p.thumb, p.word, p.answer, p.answer_words);
+    case COPROCESSOR_REGISTER:
+        return fpu_coprocessor_register(p.state, p.state_words, p.thumb, p.word, p.answer, p.answer_words);
+    case COPROCESSOR_LOAD_STORE:
+        return fpu_coprocessor_load_store(p.state, p.state_words, p.window, p.window_words, p.base, p.thumb, p.word, p.answer,
+                                          p.answer_words);
+    case RUN:
+        return fpu_run(p.state, p.state_words, p.window, p.window_words, p.base, p.thumb, p.list, p.list_words, p.answer,
+                       p.answer_words);
+    default:
+        return fpu_watch(p.state, p.state_words, p.marks, p.marks_bytes, p.window, p.window_words, p.window_marks,
+                         p.window_marks_bytes, p.base, p.thumb, p.list, p.list_words, p.answer, p.answer_words);
+    }
+}
+
+static void answer(uint32_t count, uint32_t place, uint32_t address, uint32_t word)
+{
+    same("the count", p.answer[FPU_ANSWER_COUNT], count);
+    same("the place", p.answer[FPU_ANSWER_PLACE], place);
+    same("the address", p.answer[FPU_ANSWER_ADDRESS], address);
+    same("the word", p.answer[FPU_ANSWER_WORD], word);
+    same("what stands after the answer", p.answer[FPU_ANSWER_WORDS], 0xA5A5A5A5);
+}
+
+/* Places that have other words than were passed are named; all others have to be as they came. */
+static void changed(int place, uint32_t word)
+{
+    same("a word of the state", p.state[place], word);
+    given.state[place] = word;
+}
+
+static void unchanged(void)
+{
+    same_bytes("the state", p.state, given.state, sizeof p.state);
+    same_bytes("the marks", p.marks, given.marks, sizeof p.marks);
+    same_bytes("the window", p.window, given.window, sizeof p.window);
+    same_bytes("the window marks", p.window_marks, given.window_marks, sizeof p.window_marks);
+    same_bytes("the list", p.list, given.list, sizeof p.list);
+}
+
+static void refused(enum call call, uint32_t n)
+{
+    result(made(call), FPU_REFUSED + n);
+    answer(0, 0, 0, 0);
+    unchanged();
+}
+
+static void invalid(enum call call)
+{
+    result(made(call), FPU_INVALID_ARGUMENT);
+    same_bytes("the answer", p.answer, given.answer, sizeof p.answer);
+    unchanged();
+}
+
+/* s0 = s1 + s2, Undefined, s1 to r15, s0 from and to memory at r0 */
+static const uint32_t ADD = 0xEE300A81, UNDEFINED = 0xEEB70A40, TO_R15 = 0xEE10FA90, LOAD = 0xED900A00, STORE = 0xED800A01;
+
+/* s0 doubled, compared with zero, the flags to NZCV, and s0 doubled where they are equal */
+static const uint32_t LIST[] = {0xEE300A00, 0xEEB50A40, 0xEEF1FA10, 0x0E300A00};
+
+static void new_machine(void)
+{
+    fresh("a new machine");
+    for (int i = 0; i < FPU_STATE_WORDS; i++)
+        same("a word of the state", p.state[i], i == FPU_PLACE_FPEXC ? 0x40000000 : 0);
+    same("what stands after the state", p.state[FPU_STATE_WORDS], 0x5A5A5A5A);
+    for (size_t words = 0; words < FPU_STATE_WORDS + 2; words++) {
+        if (words == FPU_STATE_WORDS)
+            continue;
+        memset(p.state, 0x33, sizeof p.state);
+        given = p;
+        result(fpu_new(p.state, words), FPU_INVALID_ARGUMENT);
+        same_bytes("the state", p.state, given.state, sizeof p.state);
+    }
+}
+
+static void single_calls(void)
+{
+    fresh("a sum");
+    p.state[1] = 0x3F800000;
+    p.state[2] = 0x40000000;
+    p.word = ADD;
+    result(made(DATA_PROCESSING), FPU_FINISHED);
+    answer(0, 0, 0, 0);
+    changed(0, 0x40400000);
+    unchanged();
+
+    for (uint32_t thumb = 0; thumb < 2; thumb++) {
+        fresh("an undefined word");
+        p.state[FPU_PLACE_R0 + 15] = 0x1000;
+        p.thumb = thumb;
+        p.word = UNDEFINED;
+        result(made(DATA_PROCESSING), FPU_UNDEFINED);
+        answer(0, 0, thumb ? 0xFFC : 0xFF8, UNDEFINED);
+        unchanged();
+
+        fresh("a branch");
+        p.state[1] = 0x1237;
+        p.thumb = thumb;
+        p.word = TO_R15;
+        result(made(COPROCESSOR_REGISTER), FPU_BRANCHED);
+        answer(0, 0, 0, 0);
+        changed(FPU_PLACE_R0 + 15, thumb ? 0x1236 : 0x1234);
+        unchanged();
+    }
+
+    fresh("FPSCR in two words");
+    p.state[FPU_PLACE_R0] = 0xA7654321;
+    p.word = 0xEEE10A10; /* r0 to FPSCR */
+    result(made(COPROCESSOR_REGISTER), FPU_FINISHED);
+    answer(0, 0, 0, 0);
+    changed(FPU_PLACE_FPSCR_FLAGS, 0xA0000000);
+    changed(FPU_PLACE_FPSCR_CONTROL, 0x07654321);
+    unchanged();
+    p.word = 0xEEF11A10; /* FPSCR to r1 */
+    result(made(COPROCESSOR_REGISTER), FPU_FINISHED);
+    changed(FPU_PLACE_R0 + 1, 0xA7654321);
+    unchanged();
+
+    fresh("a load");
+    p.state[FPU_PLACE_R0] = 0x8004;
+    p.word = LOAD;
+    result(made(COPROCESSOR_LOAD_STORE), FPU_FINISHED);
+    answer(0, 0, 0, 0);
+    changed(0, 8);
+    unchanged();
+
+    fresh("a store");
+    p.state[0] = 5;
+    p.state[FPU_PLACE_R0] = 0x8004;
+    p.word = STORE;
+    result(made(COPROCESSOR_LOAD_STORE), FPU_FINISHED);
+    answer(0, 0, 0, 0);
+    same("the word stored", p.window[2], 5);
+    given.window[2] = 5;
+    unchanged();
+}
+
+static void runs(void)
+{
+    static const uint32_t foreign[] = {0xEE300A00, 0xE3A00000}, undefined[] = {0xEE300A00, 0xEEB70A40},
+                          branched[] = {0xEE300A00, 0xEE10FA90};
+    for (int call = RUN; call < CALLS; call++) {
+        fresh("a run");
+        list(LIST, 4);
+        result(made(call), FPU_FINISHED);
+        answer(4, 0, 0, 0);
+        changed(FPU_PLACE_R0 + 15, 16);
+        changed(FPU_PLACE_FPSCR_FLAGS, 0x60000000);
+        changed(FPU_PLACE_NZCV, 0x60000000);
+        unchanged();
+
+        fresh("a run up to a foreign word");
+        list(foreign, 2);
+        result(made(call), FPU_FOREIGN);
+        answer(1, 0, 0, 0);
+        changed(FPU_PLACE_R0 + 15, 4);
+        unchanged();
+
+        fresh("a run up to an undefined word");
+        p.state[FPU_PLACE_R0 + 15] = 0x1000;
+        list(undefined, 2);
+        result(made(call), FPU_UNDEFINED);
+        answer(1, 0, 0xFFC, UNDEFINED);
+        changed(FPU_PLACE_R0 + 15, 0x1004);
+        unchanged();
+
+        fresh("a run up to a branch");
+        p.state[1] = 0x1237;
+        list(branched, 2);
+        result(made(call), FPU_BRANCHED);
+        answer(2, 0, 0, 0);
+        changed(FPU_PLACE_R0 + 15, 0x1234);
+        unchanged();
+    }
+
+    fresh("a watched run that hangs");
+    list(LIST, 4);
+    p.marks[0] = 0;
+    result(made(WATCH), FPU_HANGS);
+    answer(3, FPU_PLACE_NZCV, 0, 0);
+    given.marks[FPU_PLACE_FPSCR_FLAGS] = given.marks[FPU_PLACE_NZCV] = 0;
+    changed(FPU_PLACE_R0 + 15, 12);
+    changed(FPU_PLACE_FPSCR_FLAGS, 0x60000000);
+    changed(FPU_PLACE_NZCV, 0x60000000);
+    unchanged();
+
+    fresh("an unknown word of the window");
+    p.list[0] = 0xED900A00;
+    p.list_words = 1;
+    p.state[FPU_PLACE_R0] = 0x800C;
+    p.window_marks[3] = 0;
+    result(made(WATCH), FPU_FINISHED);
+    answer(1, 0, 0, 0);
+    given.marks[0] = 0;
+    changed(0, 10);
+    changed(FPU_PLACE_R0 + 15, 4);
+    unchanged();
+}
+
+static void refusals(void)
+{
+    for (int call = COPROCESSOR_LOAD_STORE; call < CALLS; call++) {
+        fresh("a window of 16,385 words");
+        p.word = LOAD;
+        p.window_words = p.window_marks_bytes = FPU_WINDOW_MOST_WORDS + 1;
+        p.base = 2;
+        refused(call, 2);
+
+        fresh("a base that is no multiple of 4");
+        p.word = LOAD;
+        p.base = 0xFFFFFFFA;
+        refused(call, 3);
+
+        fresh("a window that ends beyond the last address");
+        p.word = LOAD;
+        p.base = 0xFFFFFFF4;
+        refused(call, 4);
+
+        fresh("a window that ends at the last address");
+        p.word = LOAD;
+        p.base = 0xFFFFFFF0;
+        result(made(call), FPU_FINISHED);
+        answer(0, 0, 0, 0);
+        unchanged();
+    }
+    for (int call = RUN; call < CALLS; call++) {
+        fresh("a list of 4,097 words");
+        p.list_words = FPU_LIST_MOST_WORDS + 1;
+        p.base = 2;
+        p.thumb = 1;
+        refused(call, 1);
+
+        fresh("a run in Thumb state");
+        list(LIST, 4);
+        p.thumb = 1;
+        refused(call, 5);
+    }
+    fresh("a window mark too few");
+    list(LIST, 4);
+    p.window_marks_bytes = 3;
+    p.window_marks[1] = 2;
+    refused(WATCH, 6);
+
+    fresh("a window mark of 2");
+    list(LIST, 4);
+    p.window_marks[3] = 2;
+    refused(WATCH, 7);
+}
+
+static void invalid_arguments(void)
+{
+    for (int call = 0; call < CALLS; call++) {
+        for (int sort = 0; sort < (call == WATCH ? 11 : 8); sort++) {
+            /* every word here is one that a call refuses or acts upon */
+            fresh("an invalid argument");
+            p.word = call == COPROCESSOR_REGISTER ? TO_R15 : call == DATA_PROCESSING ? ADD : LOAD;
+            p.state[1] = p.state[2] = 0x3F800000;
+            p.base = 2;
+            list(LIST, 4);
+            switch (sort) {
+            case 0: p.state_words--; break;
+            case 1: p.state_words++; break;
+            case 2: p.answer_words--; break;
+            case 3: p.answer_words++; break;
+            case 4: p.thumb = 2; break;
+            case 5: p.state[FPU_PLACE_FPSCR_FLAGS] = 0x08000000; break;
+            case 6: p.state[FPU_PLACE_FPSCR_CONTROL] = 0x10000000; break;
+            case 7: p.state[FPU_PLACE_NZCV] = 0x00000001; break;
+            case 8: p.marks_bytes--; break;
+            case 9: p.marks_bytes++; break;
+            default: p.marks[51] = 2; break;
+            }
+            invalid(call);
+        }
+    }
+}
+
+/* Its results are no kinds: 1 and 0 say whether the condition holds. */
+static void condition(uint32_t condition, uint32_t nzcv, uint32_t expected)
+{
+    same("the result", fpu_check_condition(condition, nzcv), expected);
+}
+
+static void conditions(void)
+{
+    doing = "a condition";
+    condition(0, 0x40000000, 1);
+    condition(0, 0xB0000000, 0);
+    condition(1, 0x40000000, 0);
+    condition(1, 0, 1);
+    condition(10, 0x80000000, 0);
+    condition(10, 0x90000000, 1);
+    condition(14, 0xF0000000, 1);
+    condition(0xFFFFFFF0, 0x40000000, 1);
+    for (uint32_t bit = 1; bit < 0x10000000; bit *= 2)
+        condition(14, 0x40000000 + bit, FPU_INVALID_ARGUMENT);
+}
+
+int main(void)
+{
+    static const uint32_t every[] = {FPU_FINISHED, FPU_FOREIGN, FPU_UNDEFINED, FPU_BRANCHED, FPU_HANGS, FPU_REFUSED_LIST_LONG,
+                                     FPU_REFUSED_WINDOW_LONG, FPU_REFUSED_BASE_ALIGNMENT, FPU_REFUSED_WINDOW_END, FPU_REFUSED_THUMB,
+                                     FPU_REFUSED_WINDOW_MARKS, FPU_REFUSED_WINDOW_MARK, FPU_INVALID_ARGUMENT};
+    new_machine();
+    single_calls();
+    runs();
+    refusals();
+    invalid_arguments();
+    conditions();
+    doing = "every result is seen";
+    for (size_t i = 0; i < sizeof every / sizeof *every; i++)
+        same("one", seen[every[i]], 1);
+    printf("c: %lu passed, %lu failed\n", good, bad);
+    return bad != 0 || good == 0;
+}

@@ -1,0 +1,6 @@
+-- The laws of the layout.
+pub mod Both
+pub mod Copied
+pub mod CopiedMarks
+pub mod Words
+pub mod Bytes
