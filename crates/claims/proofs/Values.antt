@@ -3,15 +3,15 @@ use mathlib.Core.Path.{refl}
 use lib.Ieee.{ofBits, toBits, eq, lt, isNan}
 use Rattle.machine.specs.Window.{wordAt}
 use Rattle.numbers.specs.Compare.{compareFlags}
-use Rattle.numbers.specs.Flush.{flush}
-use Rattle.numbers.specs.Rounding.{roundingOf, rounded}
+use Rattle.rounding.specs.Flush.{flush}
+use Rattle.rounding.specs.Rounding.{roundingOf, rounded}
 use Rattle.numbers.specs.Convert.{narrowed, narrow}
 use Rattle.numbers.specs.Integer.{integerOf, toInteger}
 use Rattle.meaning.specs.Step.{after}
 use Rattle.meaning.specs.Tree.{plain}
 use Rattle.memory.specs.LoadStore.{accessTree, loadStoreTree}
 use Rattle.processing.specs.Operation.{extensionBy, operationBy, operationOf}
-use Rattle.processing.specs.Vector.{stepOf, secondOf}
+use Rattle.steps.specs.Vector.{stepOf, secondOf}
 use Rattle.processing.specs.Data.{operationTree, dataTree}
 use Rattle.limits.specs.Limit.{windowLimit}
 use Rattle.claims.specs.Values.{Values}

@@ -1,11 +1,12 @@
 -- From what the watched run promises to what its exported function leaves and promises.
 use Prim.Native.Nat.{ℕ}
 use mathlib.Core.Path.{_≡_, refl, sym, _∙_}
-use mathlib.Core.Bool.{Bool, true, false, not, true≢false}
+use mathlib.Core.Bool.{Bool, true, false, not}
 use mathlib.Core.List.{List}
 use lib.Dec.{eqb}
 use lib.ListN.{length}
 use borrow.Author.Tests.{not-true, not-false}
+use mathlib.Core.Bool.{true≢false}
 use Rattle.machine.specs.declared.Machine.{Machine}
 use Rattle.machine.specs.Place.{state}
 use Rattle.meaning.specs.declared.Marks.{Marks}

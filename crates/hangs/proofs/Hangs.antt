@@ -1,7 +1,7 @@
 -- Which place a word hangs on, by the tests that the code makes.
 use Prim.Native.Nat.{ℕ}
 use mathlib.Core.Path.{_≡_, refl, sym, _∙_}
-use Rattle.bits.proofs.Truth.{clash}
+use mathlib.Core.Bool.{true≢false}
 use mathlib.Core.Bool.{Bool, true, false, cond, _&&_}
 use lib.Dec.{eqb}
 use lib.Ieee.{Format, binary32, binary64}
@@ -15,7 +15,8 @@ use Rattle.meaning.specs.Hang.{Hang, clear, at, hangOf}
 use Rattle.processing.specs.Operation as O
 use Rattle.processing.specs.Operation.{Operation, extensionBy, operationOf}
 use Rattle.meaning.proofs.Laws.{clear-go}
-use Rattle.processing.specs.Data.{regD, stepping, undefinedTree, operationTree, extensionTree, dataTree}
+use Rattle.processing.specs.Fields.{regD}
+use Rattle.processing.specs.Data.{stepping, undefinedTree, operationTree, extensionTree, dataTree}
 use Rattle.memory.specs.LoadStore.{accessTree, loadStoreTree}
 use Rattle.transfers.specs.declared.Transfer.{Transfer}
 use Rattle.transfers.specs.declared.Transfer.the-variants.{System, Single, Nothing}
@@ -33,7 +34,7 @@ undefined thumb w st μ = refl
 
 pub both : (a b : Bool) → (a && b) ≡ true → (a ≡ true) × (b ≡ true)
 both true b e = (refl, e)
-both false b e = (e, absurd (clash (sym e)))
+both false b e = (e, absurd (true≢false (sym e)))
 
 picked : (b : Bool) (x : Hang) → b ≡ true → clear ≡ cond b clear x
 picked b x e = rw e

@@ -7,7 +7,7 @@ use mathlib.Core.List.{List, [], _∷_}
 use lib.Dec.{eqb, ltb}
 use lib.ListN.{length, getD, take, drop}
 use borrow.Author.Tests.{eq-eqb, ne-eqb, eqb-true, ltb-true, ltb-false, lt-ltb, le-ltb}
-use Rattle.bits.proofs.Truth.{clash}
+use mathlib.Core.Bool.{true≢false}
 use Rattle.machine.specs.Place.{place}
 use Rattle.listing.specs.declared.number.Number.{Number}
 use Rattle.listing.specs.declared.number.Number.the-variants.{Wrong}
@@ -25,8 +25,8 @@ same-self (x ∷ t) = rw (eq-eqb x x refl, same-self t)
 same-is : (s t : List ℕ) → same s t ≡ true → s ≡ t
 unfolding same
 same-is [] [] e = refl
-same-is [] (y ∷ t) e = absurd (clash (sym e))
-same-is (x ∷ s) [] e = absurd (clash (sym e))
+same-is [] (y ∷ t) e = absurd (true≢false (sym e))
+same-is (x ∷ s) [] e = absurd (true≢false (sym e))
 same-is (x ∷ s) (y ∷ t) e = by (eqb x y) refl (λ k. same-is s t k) e
   where
     by : (b : Bool) → eqb x y ≡ b → (same s t ≡ true → s ≡ t) → (b && same s t) ≡ true → (x ∷ s) ≡ (y ∷ t)

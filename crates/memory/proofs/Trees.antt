@@ -12,7 +12,7 @@ use Rattle.machine.specs.Place.{core, State, get}
 use Rattle.meaning.specs.Step.{step, after, nothing}
 use Rattle.meaning.specs.Tree.{go, on, out, plain}
 use Rattle.meaning.proofs.Laws.{plain-ask, plain-once, plain-then}
-use Rattle.bits.proofs.Truth.{clash}
+use mathlib.Core.Bool.{true≢false}
 use Rattle.memory.specs.LoadStore.{formatOf, pairStep, countOf, startOf, accessAt, writeBack, accessTree, loadStoreTree}
 
 module _ (f : Format) (base w : ℕ) (st : State) where
@@ -37,13 +37,13 @@ module _ (base w : ℕ) where
           → cond (eqb c 10) (accessTree binary32 base w) (cond (eqb c 11) (accessTree binary64 base w) (go nothing)) ≡ accessTree (formatOf (eqb c 11)) base w
       by c (yes a) b h = rw a
       by c (no a) (yes b) h = rw b
-      by c (no a) (no b) h = absurd (clash (simp (ne-eqb _ _ a, ne-eqb _ _ b) at h))
+      by c (no a) (no b) h = absurd (true≢false (simp (ne-eqb _ _ a, ne-eqb _ _ b) at h))
 
   pub others : (not (eqb (field w 8 11) 10) && not (eqb (field w 8 11) 11)) ≡ true → loadStoreTree base w ≡ go nothing
   unfolding loadStoreTree
   others h = by (eqb (field w 8 11) 10) (eqb (field w 8 11) 11) h
     where
       by : (a b : Bool) → (not a && not b) ≡ true → cond a (accessTree binary32 base w) (cond b (accessTree binary64 base w) (go nothing)) ≡ go nothing
-      by true b h = absurd (clash (sym h))
-      by false true h = absurd (clash (sym h))
+      by true b h = absurd (true≢false (sym h))
+      by false true h = absurd (true≢false (sym h))
       by false false h = refl

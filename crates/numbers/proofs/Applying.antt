@@ -1,10 +1,10 @@
 -- The arithmetic of one step by the tests that the code makes, and what its result depends on. Over the format. Assumes nothing.
 use mathlib.Core.Path.{_≡_, refl, sym, ap, _∙_}
-use mathlib.Core.Bool.{Bool, true, false, _&&_, _||_, cond}
+use mathlib.Core.Bool.{Bool, true, false, _&&_, cond, _||_}
 use Prim.Native.Nat.{ℕ, _/_, _%_, _^_}
 use lib.Ieee.{Float, Format, ofBits, toBits, nanBits}
-use Rattle.numbers.specs.Flush.{flush}
-use Rattle.numbers.proofs.Flushing.{flush-off}
+use Rattle.rounding.specs.Flush.{flush}
+use Rattle.rounding.proofs.Flushing.{flush-off}
 use Rattle.numbers.specs.Arithmetic.{apply, accumulates, defaultNan, applied, arithmetic}
 use Rattle.numbers.specs.declared.arithmetic.Arithmetic.{Arithmetic}
 use Rattle.numbers.specs.declared.arithmetic.Arithmetic.the-variants.{MultiplyAccumulate, MultiplySubtract, NegateMultiplySubtract, NegateMultiplyAccumulate, Multiply, NegateMultiply, Add, Subtract, Divide}

@@ -1,34 +1,33 @@
--- What callers need: no result is longer than its word, and a root, a widened single and an integer as a float are never subnormal, so that flushing changes none of them.
+-- What callers need: no result is longer than its word, and a widened single and an integer as a float are never subnormal, so that flushing changes none of them.
 -- Assumes nothing.
-use mathlib.Core.Path.{_≡_, refl, sym, ap, _∙_, subst}
+use mathlib.Core.Path.{_≡_, sym, subst}
 use mathlib.Core.Logic.{_⊎_, inl, inr}
-use mathlib.Core.Bool.{Bool, true, false, not, _&&_, cond}
-use Prim.Native.Nat.{ℕ, zero, suc, _+_, _-_, _*_, _/_, _%_, _^_, _≤_, _<_}
-use native.Mathlib.Nat.{le-trans, le-of-eq, one-mul, mul-pos, mul-le-mul-right, eq-zero-or-pos, zero-lt-suc, zero-mul}
+use mathlib.Core.Bool.{Bool, true, false, _&&_, cond}
+use Prim.Native.Nat.{ℕ, zero, _+_, _-_, _*_, _/_, _%_, _^_, _≤_, _<_}
+use native.Mathlib.Nat.{le-trans, mul-le-mul-right, eq-zero-or-pos}
 use native.Mathlib.Decide.{decLt}
 use native.Mathlib.Omega.{arith}
-use lib.IntN.{ℤ}
-use lib.Dec.{T, leb, ltb, eqb, leb→le, lit≤, lit<}
-use lib.Pow.{pow-pos}
+use lib.Dec.{T, leb, lit≤, lit<}
 use lib.Count.{leadingZeros}
-use lib.Ieee.{Float, nan, inf, fin, Format, binary32, binary64, prec, emax, low, up, down, hid, ones, top, fits, ofBits, toBits}
+use lib.Ieee.{Float, nan, inf, fin, Format, binary32, binary64, low, up, down, hid, top, fits, ofBits, toBits}
 use lib.Ieee.Bits.{toBits-lt, ofBits-fits}
-use lib.Ieee.Fits.{add-fits, sub-fits, mul-fits, div-fits, neg-fits, fits-widens, and-l, and-r, up-pos, down-pos}
-use Rattle.numbers.specs.Flush.{flush}
+use lib.Ieee.Fits.{add-fits, sub-fits, mul-fits, div-fits, neg-fits, fits-widens, down-pos}
+use Rattle.rounding.specs.Flush.{flush}
 use Rattle.numbers.specs.Arithmetic.{apply, defaultNan, anyNan, applied, arithmetic}
-use Rattle.numbers.specs.Rounding.{cutTo, rounded}
-use Rattle.numbers.specs.Convert.{narrowed, narrow, widen, Lifted}
+use Rattle.rounding.specs.Rounding.{cutTo, rounded}
+use Rattle.numbers.specs.Convert.{narrowed, narrow, widen}
+use Rattle.rounding.specs.Lift.{Lifted}
 use Rattle.numbers.specs.Integer.{fromInteger, clamped, integerOf, toInteger}
-use Rattle.numbers.specs.Root.{sqrtOf, squareRoot}
 use Rattle.numbers.specs.declared.arithmetic.Arithmetic.{Arithmetic}
 use Rattle.numbers.specs.declared.arithmetic.Arithmetic.the-variants.{MultiplyAccumulate, MultiplySubtract, NegateMultiplySubtract, NegateMultiplyAccumulate, Multiply, NegateMultiply, Add, Subtract, Divide}
-use Rattle.numbers.specs.declared.rounding.Rounding.{Rounding}
-use Rattle.numbers.specs.declared.rounding.Rounding.the-variants.{Nearest}
-use Rattle.numbers.proofs.Units.{hid-pos, writes}
-use Rattle.numbers.proofs.Flushing.{NotSubnormal, flush-none, flush-lt}
-use Rattle.numbers.proofs.Formed.{word-rest, word-lt, rounded-lt, rounded-normal, rounded-zero, root-lt, root-normal}
-use Rattle.numbers.proofs.Whole.{moved-is}
-use Rattle.numbers.proofs.Widen.{wide-inf, wide-nan, wide-mid, wide-zero, wide-low, lifted}
+use Rattle.rounding.specs.declared.rounding.Rounding.{Rounding}
+use Rattle.rounding.specs.declared.rounding.Rounding.the-variants.{Nearest}
+use Rattle.rounding.proofs.Flushing.{NotSubnormal, flush-none, flush-lt}
+use Rattle.rounding.proofs.Formed.{rounded-lt, rounded-normal, rounded-zero}
+use Rattle.rounding.proofs.Lifting.{moved-is}
+use Rattle.numbers.proofs.Widen.{wide-inf, wide-nan, wide-mid, wide-zero, wide-low}
+use Rattle.rounding.proofs.Lifting.{lifted}
+use Rattle.rounding.proofs.Words.{nan-word, inf-word}
 
 -- ---- arithmetic
 
@@ -58,72 +57,6 @@ applied-lt f kind n m d = either-lt (anyNan f kind n m d) (defaultNan f) _ (2 * 
 pub arithmetic-lt : (f : Format) (control : ℕ) (kind : Arithmetic) (n m d : ℕ) → arithmetic f control kind n m d < 2 * top f
 unfolding arithmetic
 arithmetic-lt f control kind n m d = flush-lt f control (applied f kind n m d) (applied-lt f kind n m d)
-
--- ---- the words of what is no number
-
-nan-word : (f : Format) → (toBits f nan < 2 * top f) × NotSubnormal f (toBits f nan)
-unfolding toBits
-nan-word binary32 = (lit< tt, inr (lit≤ tt))
-nan-word binary64 = (lit< tt, inr (lit≤ tt))
-
-inf-word : (f : Format) (s : Bool) → (toBits f (inf s) < 2 * top f) × NotSubnormal f (toBits f (inf s))
-unfolding toBits
-inf-word f s = (word-lt f s (ones f * hid f) (ones-lt f), inr (subst (λ (x : ℕ). hid f ≤ x) (sym (word-rest f s (ones f * hid f) (ones-lt f))) (hid-le f)))
-  where
-    ones-lt : (f : Format) → ones f * hid f < top f
-    ones-lt binary32 = lit< tt
-    ones-lt binary64 = lit< tt
-
-    hid-le : (f : Format) → hid f ≤ ones f * hid f
-    hid-le binary32 = lit≤ tt
-    hid-le binary64 = lit≤ tt
-
-zero-word : (f : Format) (s : Bool) (e : ℤ) → (toBits f (fin s 0 e) < 2 * top f) × NotSubnormal f (toBits f (fin s 0 e))
-zero-word f s e = (subst (λ (x : ℕ). x < 2 * top f) (sym is) (word-lt f s 0 some), inl (ap (λ (x : ℕ). x % top f) is ∙ word-rest f s 0 some))
-  where
-    some : 0 < top f
-    some = mul-pos (hid-pos f) (zero-lt-suc (ones f))
-
-    is : toBits f (fin s 0 e) ≡ cond s (top f) 0 + 0
-    is = writes f (fin s 0 e) s 0 0 (refl, ap (λ (x : ℕ). x * 2 ^ low f) (zero-mul (up e)) ∙ zero-mul (2 ^ low f) ∙ sym (zero-mul (down e))) (pow-pos (prec f)) (inl refl) ∙ ap (λ (x : ℕ). cond s (top f) 0 + (x + 0)) (zero-mul (hid f))
-
--- ---- roots
-
--- the smallest value is no larger than a value that is not 0
-pub reaches : (f : Format) (s : Bool) (m : ℕ) (e : ℤ) → T (fits f (fin s (suc m) e)) → down e ≤ suc m * up e * 2 ^ low f
-unfolding fits
-reaches f s m e t =
-    let a : Bool = eqb (suc m % 2) 1 in
-    let b : Bool = ltb (suc m) (2 ^ prec f) in
-    let c : Bool = leb (down e) (2 ^ low f) in
-    let d : Bool = ltb (suc m * up e) (2 ^ suc (emax f) * down e) in
-    le-trans (leb→le (down e) (2 ^ low f) (and-r (a && b) c (and-l (a && b && c) d t)))
-    (le-trans (le-of-eq (sym (one-mul (2 ^ low f)))) (mul-le-mul-right (2 ^ low f) (mul-pos (zero-lt-suc m) (up-pos e))))
-
-sqrt-word : (mode : Rounding) (f : Format) (v : Float) → T (fits f v) → (toBits f (sqrtOf mode f v) < 2 * top f) × NotSubnormal f (toBits f (sqrtOf mode f v))
-unfolding sqrtOf
-sqrt-word mode f nan t = nan-word f
-sqrt-word mode f (inf true) t = nan-word f
-sqrt-word mode f (inf false) t = inf-word f false
-sqrt-word mode f (fin s zero e) t = zero-word f s e
-sqrt-word mode f (fin true (suc m) e) t = nan-word f
-sqrt-word mode f (fin false (suc m) e) t = (root-lt mode f (suc m * up e) (down e) (down-pos e), root-normal mode f (suc m * up e) (down e) (down-pos e) (reaches f false m e t))
-
-module _ (f : Format) (control m : ℕ) where
-  pub root-not-subnormal : NotSubnormal f (squareRoot f control m)
-  unfolding squareRoot
-  root-not-subnormal = subst (NotSubnormal f) (sym (flush-none f control _ root)) root
-    where
-      root : NotSubnormal f (toBits f (sqrtOf Nearest f (ofBits f m)))
-      root = sqrt-word Nearest f (ofBits f m) (ofBits-fits f m) .1
-
-  -- the control word changes no root
-  pub root-unflushed : squareRoot f control m ≡ toBits f (sqrtOf Nearest f (ofBits f m))
-  unfolding squareRoot
-  root-unflushed = flush-none f control _ (sqrt-word Nearest f (ofBits f m) (ofBits-fits f m) .1)
-
-  pub root-word-lt : squareRoot f control m < 2 * top f
-  root-word-lt = subst (λ (x : ℕ). x < 2 * top f) (sym root-unflushed) (sqrt-word Nearest f (ofBits f m) (ofBits-fits f m) .0)
 
 -- ---- narrowing
 

@@ -3,11 +3,10 @@ use mathlib.Core.Path.{_≡_, refl}
 use mathlib.Core.Bool.{true, false}
 use lib.Ieee.{binary32, binary64, ofBits, toBits, odd, eq, lt, isNan}
 use Rattle.numbers.specs.Compare.{compareFlags}
-use Rattle.numbers.specs.Flush.{flush}
-use Rattle.numbers.specs.Rounding.{roundingOf, rounded}
+use Rattle.rounding.specs.Flush.{flush}
+use Rattle.rounding.specs.Rounding.{roundingOf, rounded}
 use Rattle.numbers.specs.Convert.{narrowed, narrow}
 use Rattle.numbers.specs.Integer.{fromInteger, integerOf, toInteger}
-use Rattle.numbers.specs.Root.{isqrt, rootOf, sqrtOf, squareRoot}
 
 -- To signed in mode 00: 2.5, -0.5, -1.5, of doubles and of singles. -0.5 in mode 10, signed and unsigned. +0 against -0.
 -- Narrowing a tie, and what is just above half of the smallest single, without and with FPSCR bit 24.
@@ -27,10 +26,7 @@ pub values : (toInteger binary64 (roundingOf 0) true 0x4004_0000_0000_0000 ≡ 2
 unfolding toInteger integerOf roundingOf compareFlags narrow narrowed rounded flush ofBits toBits eq lt isNan
 values = (refl, refl, refl, refl, refl, refl, refl, refl, refl, refl, refl, refl, refl)
 
--- the roots of 2 and of the subnormal 3, and the largest unsigned integer
-pub run-values : (squareRoot binary32 0 0x4000_0000 ≡ 0x3FB5_04F3)
-    × (squareRoot binary64 0 0x4000_0000_0000_0000 ≡ 0x3FF6_A09E_667F_3BCD)
-    × (squareRoot binary64 0 3 ≡ 0x1E6B_B67A_E858_4CAA)
-    × (fromInteger binary32 false 0xFFFF_FFFF ≡ 0x4F80_0000)
-unfolding squareRoot fromInteger sqrtOf rootOf isqrt rounded flush ofBits toBits odd
-run-values = (refl, refl, refl, refl)
+-- the largest unsigned integer
+pub integer-value : fromInteger binary32 false 0xFFFF_FFFF ≡ 0x4F80_0000
+unfolding fromInteger rounded flush ofBits toBits odd
+integer-value = refl

@@ -1,40 +1,40 @@
 -- Integers to floats, and floats to integers. Assumes nothing.
 use mathlib.Core.Path.{_≡_, refl, sym, ap, _∙_, subst}
 use mathlib.Core.Logic.{inr}
-use mathlib.Core.Bool.{Bool, true, false, _&&_, cond}
+use mathlib.Core.Bool.{Bool, true, false, _&&_, cond, and-false}
 use Prim.Native.Nat.{ℕ, _+_, _-_, _*_, _/_, _%_, _^_, _≤_, _<_, min}
-use native.Mathlib.Nat.{le-trans, le-of-eq, le-of-lt, lt-of-lt-of-le, one-mul, mul-one, min-eq-left, mul-assoc, mul-le-mul, mod-eq-of-lt, le-div-iff-mul-le}
+use native.Mathlib.Nat.{le-trans, le-of-eq, le-of-lt, lt-of-lt-of-le, one-mul, mul-one, min-eq-left, mul-assoc, mul-le-mul, le-div-iff-mul-le}
 use native.Mathlib.Omega.{arith}
 use lib.Dec.{leb, ltb, eqb, lit≤, lit<}
 use lib.Pow.{pow-add, pow-pos, pow-mono}
-use lib.Ieee.{Float, nan, inf, fin, Format, binary32, binary64, up, down, top, ofBits, toBits}
+use lib.Ieee.{Float, nan, inf, fin, Format, binary32, binary64, up, down, ofBits, toBits}
 use lib.Ieee.Fits.{down-pos, fits-widens}
 use lib.Ieee.Bits.{ofBits-toBits, ofBits-fits}
 use lib.Ieee.Exact.{HasValue}
-use borrow.Author.Tests.{le-leb, lt-leb, lt-ltb}
-use Rattle.numbers.specs.Rounding.{cutTo, rounded, ceiling, IsCut, IsSettled}
+use borrow.Author.Tests.{le-leb, lt-leb, le-ltb}
+use Rattle.rounding.specs.Rounding.{cutTo, rounded, IsCut}
+use Rattle.rounding.specs.Pack.{ceiling, IsSettled}
 use Rattle.numbers.specs.Integer.{fromInteger, clamped, integerOf, toInteger}
-use Rattle.numbers.specs.Convert.{widen, Lifted}
-use Rattle.numbers.specs.declared.rounding.Rounding.{Rounding}
-use Rattle.numbers.specs.declared.rounding.Rounding.the-variants.{Nearest}
-use Rattle.numbers.proofs.Units.{slide, reads-low, reads-normal, reads-inf}
-use Rattle.numbers.proofs.Patterns.{nan-of-fields}
-use Rattle.numbers.proofs.Cutting.{move-ge, cut-le, cut-same, cut-far}
-use Rattle.numbers.proofs.Written.{ceiling-ge, rounded-bits, exactly-is}
-use Rattle.numbers.proofs.Settle.{settled-same}
+use Rattle.numbers.specs.Convert.{widen}
+use Rattle.rounding.specs.Lift.{Lifted}
+use Rattle.rounding.specs.declared.rounding.Rounding.{Rounding}
+use Rattle.rounding.specs.declared.rounding.Rounding.the-variants.{Nearest}
+use Rattle.rounding.proofs.Units.{slide, reads-low, reads-normal, reads-inf}
+use Rattle.rounding.proofs.Patterns.{nan-of-fields}
+use Rattle.rounding.proofs.Cutting.{move-ge, cut-le, cut-same, cut-far}
+use Rattle.rounding.proofs.Written.{ceiling-ge, rounded-bits, exact-is, over-is, tiny-is}
+use Rattle.rounding.proofs.Settle.{settled-same}
+use Rattle.rounding.proofs.Lifting.{moved-is}
 
 -- ---- a whole number as a float, over the format
 
-pub moved-is : (n r : ℕ) → Lifted n r → n * 2 ^ r % 2 ^ 64 ≡ n * 2 ^ r
-moved-is n r l = mod-eq-of-lt (lt-of-lt-of-le (l .below) (lit≤ tt))
+pub whole-zero : (mode : Rounding) (f : Format) (s : Bool) (n bits : ℕ) (x o t : Bool) → n ≡ 0 → IsSettled mode f s (0 * 2 ^ 0) (2 ^ 2209) bits x o t → IsSettled mode f s n 1 bits x o t
+whole-zero mode f s n bits x o t e p = settled-same mode f s (0 * 2 ^ 0) (2 ^ 2209) n 1 bits x o t (pow-pos 2209) (lit< tt) (sym (ap (λ (z : ℕ). z * 2 ^ 2209) e)) p
 
-pub whole-zero : (mode : Rounding) (f : Format) (s : Bool) (n bits : ℕ) (x : Bool) → n ≡ 0 → IsSettled mode f s (0 * 2 ^ 0) (2 ^ 2209) bits x → IsSettled mode f s n 1 bits x
-whole-zero mode f s n bits x e p = settled-same mode f s (0 * 2 ^ 0) (2 ^ 2209) n 1 bits x (pow-pos 2209) (lit< tt) (sym (ap (λ (z : ℕ). z * 2 ^ 2209) e)) p
-
-pub whole-some : (mode : Rounding) (f : Format) (s : Bool) (n r bits : ℕ) (x : Bool) → Lifted n r
-    → IsSettled mode f s (n * 2 ^ r % 2 ^ 64 * 512 * 2 ^ (2200 - r)) (2 ^ 2209) bits x → IsSettled mode f s n 1 bits x
-whole-some mode f s n r bits x l p =
-    settled-same mode f s (n * 2 ^ r % 2 ^ 64 * 512 * 2 ^ (2200 - r)) (2 ^ 2209) n 1 bits x (pow-pos 2209) (lit< tt)
+pub whole-some : (mode : Rounding) (f : Format) (s : Bool) (n r bits : ℕ) (x o t : Bool) → Lifted n r
+    → IsSettled mode f s (n * 2 ^ r % 2 ^ 64 * 512 * 2 ^ (2200 - r)) (2 ^ 2209) bits x o t → IsSettled mode f s n 1 bits x o t
+whole-some mode f s n r bits x o t l p =
+    settled-same mode f s (n * 2 ^ r % 2 ^ 64 * 512 * 2 ^ (2200 - r)) (2 ^ 2209) n 1 bits x o t (pow-pos 2209) (lit< tt)
     (mul-one (n * 2 ^ r % 2 ^ 64 * 512 * 2 ^ (2200 - r))
     ∙ ap (λ (z : ℕ). z * 512 * 2 ^ (2200 - r)) (moved-is n r l)
     ∙ ap (λ (z : ℕ). z * 2 ^ (2200 - r)) (mul-assoc n (2 ^ r) (2 ^ 9) ∙ ap (λ (z : ℕ). n * z) (sym (pow-add 2 r 9)))
@@ -83,7 +83,7 @@ module _ (mode : Rounding) (s : Bool) (n r kept : ℕ) (x : Bool) (l : Lifted n 
       exps : (r : ℕ) → r ≤ 52 → 149 + 29 ≡ r + (178 - r)
       exps r h = omega arith
 
-  pub whole-cut : (sign : ℕ) → sign ≡ cond s 0x8000_0000 0 → IsSettled mode binary32 s n 1 (sign + ((178 - r) * 0x80_0000 + kept)) x
+  pub whole-cut : (sign : ℕ) → sign ≡ cond s 0x8000_0000 0 → IsSettled mode binary32 s n 1 (sign + ((178 - r) * 0x80_0000 + kept)) x false false
   whole-cut sign e =
       let least = le-trans (le-of-lt small) (ceiling-ge mode binary32 s) in
       record {
@@ -91,17 +91,16 @@ module _ (mode : Rounding) (s : Bool) (n r kept : ℕ) (x : Bool) (l : Lifted n 
             ap (λ (z : ℕ). z + ((178 - r) * 0x80_0000 + kept)) e
             ∙ ap (λ (z : ℕ). cond s 0x8000_0000 0 + z) (sym (min-eq-left least) ∙ ap (λ (z : ℕ). min ((178 - r) * 0x80_0000 + z) (ceiling mode binary32 s)) kept-is)
             ∙ sym (rounded-bits mode binary32 s n 1 (178 - r) (n * 2 ^ r) (2 ^ 29) (lit< tt) (pow-pos 29) scale (digits-few .0) (inr (digits-few .1)));
-        exact-is =
-            p .exact-is
-            ∙ ap (λ (z : ℕ). eqb (z % 2 ^ 29) 0) (moved-is n r l)
-            ∙ and-true (eqb (n * 2 ^ r % 2 ^ 29) 0)
-            ∙ ap (λ (t : Bool). eqb (n * 2 ^ r % 2 ^ 29) 0 && t) (sym (lt-ltb ((178 - r) * 0x80_0000 + kept) 0x7F80_0000 (lt-of-lt-of-le small (lit≤ tt))) ∙ ap (λ (z : ℕ). ltb ((178 - r) * 0x80_0000 + z) 0x7F80_0000) kept-is)
-            ∙ sym (exactly-is mode binary32 s n 1 (178 - r) (n * 2 ^ r) (2 ^ 29) (lit< tt) (pow-pos 29) scale (digits-few .0) (inr (digits-few .1)));
+        exact-is = p .exact-is ∙ ap (λ (z : ℕ). eqb (z % 2 ^ 29) 0) (moved-is n r l) ∙ sym (exact-is mode binary32 s n 1 (178 - r) (n * 2 ^ r) (2 ^ 29) (lit< tt) (pow-pos 29) scale (digits-few .0) (inr (digits-few .1)));
+        over-is =
+            sym (lt-leb 0x7F80_0000 ((178 - r) * 0x80_0000 + kept) (lt-of-lt-of-le small (lit≤ tt)))
+            ∙ ap (λ (z : ℕ). leb 0x7F80_0000 ((178 - r) * 0x80_0000 + z)) kept-is
+            ∙ sym (over-is mode binary32 s n 1 (178 - r) (n * 2 ^ r) (2 ^ 29) (lit< tt) (pow-pos 29) scale (digits-few .0) (inr (digits-few .1)));
+        tiny-is =
+            sym (and-false (ltb 0 (n * 2 ^ r)))
+            ∙ ap (λ (t : Bool). ltb 0 (n * 2 ^ r) && t) (sym (le-ltb (n * 2 ^ r / 2 ^ 29) 0x80_0000 (digits-few .1)))
+            ∙ sym (tiny-is mode binary32 s n 1 (178 - r) (n * 2 ^ r) (2 ^ 29) (lit< tt) (pow-pos 29) scale (digits-few .0) (inr (digits-few .1)));
       }
-    where
-      and-true : (t : Bool) → t ≡ (t && true)
-      and-true true = refl
-      and-true false = refl
 
 -- ---- by the sign of a word
 
@@ -110,15 +109,15 @@ value-is : (f : Format) (g n : Bool) (signed : Bool) (w : ℕ) → signed ≡ g 
 unfolding fromInteger
 value-is f g n signed w p q = rw (p, q)
 
-module _ (f : Format) (signed : Bool) (w bits : ℕ) (x : Bool) where
-  pub below-zero : signed ≡ true → 2 ^ 31 ≤ w → IsSettled Nearest f true (2 ^ 32 - w) 1 bits x → bits ≡ fromInteger f signed w
-  below-zero e h p = p .bits-are ∙ sym (value-is f true true signed w e (le-leb (2 ^ 31) w h))
+module _ (f : Format) (signed : Bool) (w bits : ℕ) where
+  pub below-zero : signed ≡ true → 2 ^ 31 ≤ w → bits ≡ toBits f (rounded Nearest f true (2 ^ 32 - w) 1) → bits ≡ fromInteger f signed w
+  below-zero e h p = p ∙ sym (value-is f true true signed w e (le-leb (2 ^ 31) w h))
 
-  pub signed-up : signed ≡ true → w < 2 ^ 31 → IsSettled Nearest f false w 1 bits x → bits ≡ fromInteger f signed w
-  signed-up e h p = p .bits-are ∙ sym (value-is f true false signed w e (lt-leb (2 ^ 31) w h))
+  pub signed-up : signed ≡ true → w < 2 ^ 31 → bits ≡ toBits f (rounded Nearest f false w 1) → bits ≡ fromInteger f signed w
+  signed-up e h p = p ∙ sym (value-is f true false signed w e (lt-leb (2 ^ 31) w h))
 
-  pub unsigned : signed ≡ false → IsSettled Nearest f false w 1 bits x → bits ≡ fromInteger f signed w
-  unsigned e p = p .bits-are ∙ sym (value-is f false (leb (2 ^ 31) w) signed w e refl)
+  pub unsigned : signed ≡ false → bits ≡ toBits f (rounded Nearest f false w 1) → bits ≡ fromInteger f signed w
+  unsigned e p = p ∙ sym (value-is f false (leb (2 ^ 31) w) signed w e refl)
 
 -- ---- a double as a whole number
 

@@ -1,8 +1,8 @@
 -- The arithmetic of one step. Assumes nothing.
 use Prim.Native.Nat.{ℕ, _+_, _*_, _/_}
-use mathlib.Core.Bool.{Bool, true, false, _&&_, _||_, cond}
+use mathlib.Core.Bool.{Bool, true, false, _&&_, cond, _||_}
 use lib.Ieee.{Float, Format, add, sub, mul, div, neg, ofBits, toBits, nanBits, hid, ones}
-use Rattle.numbers.specs.Flush.{flush}
+use Rattle.rounding.specs.Flush.{flush}
 use Rattle.numbers.specs.declared.arithmetic.Arithmetic.{Arithmetic}
 use Rattle.numbers.specs.declared.arithmetic.Arithmetic.the-variants.{MultiplyAccumulate, MultiplySubtract, NegateMultiplySubtract, NegateMultiplyAccumulate, Multiply, NegateMultiply, Add, Subtract, Divide}
 

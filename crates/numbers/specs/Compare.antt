@@ -1,6 +1,6 @@
 -- A comparison's flags. Assumes nothing.
 use Prim.Native.Nat.{ℕ}
-use mathlib.Core.Bool.{_||_, cond}
+use mathlib.Core.Bool.{cond, _||_}
 use lib.Ieee.{Float, Format, lt, eq, isNan, ofBits}
 
 -- FPSCR 31:28: unordered 0011, equal 0110, less 1000, greater 0010

@@ -1,12 +1,12 @@
 -- Conversions between the widths. Assumes nothing.
-use Prim.Native.Nat.{ℕ, _*_, _^_, _≤_, _<_}
+use Prim.Native.Nat.{ℕ, _*_}
 use mathlib.Core.Path.{_≡_}
-use mathlib.Core.Bool.{Bool, true}
+use mathlib.Core.Bool.{Bool, true, false}
 use lib.Ieee.{Float, nan, inf, fin, Format, binary32, binary64, up, down, ofBits, toBits}
-use Rattle.numbers.specs.Flush.{flush}
-use Rattle.numbers.specs.Rounding.{rounded, exactly}
-use Rattle.numbers.specs.declared.rounding.Rounding.{Rounding}
-use Rattle.numbers.specs.declared.rounding.Rounding.the-variants.{Nearest}
+use Rattle.rounding.specs.Flush.{flush}
+use Rattle.rounding.specs.Rounding.{rounded, exact, over, tiny}
+use Rattle.rounding.specs.declared.rounding.Rounding.{Rounding}
+use Rattle.rounding.specs.declared.rounding.Rounding.the-variants.{Nearest}
 
 -- a value of any format at the format f, rounded once
 unfoldable pub narrowed : Rounding → Format → Float → Float
@@ -14,11 +14,11 @@ narrowed mode f nan = nan
 narrowed mode f (inf s) = inf s
 narrowed mode f (fin s m e) = rounded mode f s (m * up e) (down e)
 
--- whether the format f holds it
-unfoldable pub narrowsExactly : Format → Float → Bool
-narrowsExactly f nan = true
-narrowsExactly f (inf s) = true
-narrowsExactly f (fin s m e) = exactly f (m * up e) (down e)
+-- what a test says of a finite value, by its sign and its size as a fraction, and d of any other
+unfoldable pub onFinite : Bool → (Bool → ℕ → ℕ → Bool) → Float → Bool
+onFinite d g nan = d
+onFinite d g (inf s) = d
+onFinite d g (fin s m e) = g s (m * up e) (down e)
 
 -- a double's bits as a single's word: rounded to nearest even, then flushed as a single
 unfoldable pub narrow : ℕ → ℕ → ℕ
@@ -29,12 +29,8 @@ unfoldable pub widen : ℕ → ℕ
 widen b = toBits binary64 (ofBits binary32 b)
 
 -- what the code's narrowing gives
-pub record IsNarrowed (mode : Rounding) (f : Format) (v : Float) (bits : ℕ) (exact : Bool) : Type 0 where
+pub record IsNarrowed (mode : Rounding) (f : Format) (v : Float) (bits : ℕ) (x o t : Bool) : Type 0 where
   pub bits-are : bits ≡ toBits f (narrowed mode f v)
-  pub exact-is : exact ≡ narrowsExactly f v
-
--- what moving a number up to 53 digits gives
-pub record Lifted (t r : ℕ) : Type 0 where
-  pub most : r ≤ 52
-  pub least : 2 ^ 52 ≤ t * 2 ^ r
-  pub below : t * 2 ^ r < 2 ^ 53
+  pub exact-is : x ≡ onFinite true (λ s. exact f) v
+  pub over-is : o ≡ onFinite false (over mode f) v
+  pub tiny-is : t ≡ onFinite false (λ s. tiny f) v

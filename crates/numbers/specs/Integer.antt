@@ -3,9 +3,9 @@ use Prim.Native.Nat.{ℕ, _-_, _*_, _%_, _^_, min}
 use mathlib.Core.Bool.{Bool, true, false, _&&_, cond}
 use lib.Dec.{leb}
 use lib.Ieee.{Float, nan, inf, fin, Format, up, down, ofBits, toBits}
-use Rattle.numbers.specs.Rounding.{rounded, cutTo}
-use Rattle.numbers.specs.declared.rounding.Rounding.{Rounding}
-use Rattle.numbers.specs.declared.rounding.Rounding.the-variants.{Nearest}
+use Rattle.rounding.specs.Rounding.{rounded, cutTo}
+use Rattle.rounding.specs.declared.rounding.Rounding.{Rounding}
+use Rattle.rounding.specs.declared.rounding.Rounding.the-variants.{Nearest}
 
 -- a word of 32 bits, signed or not, as a value
 abbrev pub integerValue : Rounding → Format → Bool → ℕ → Float

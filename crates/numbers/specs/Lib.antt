@@ -2,7 +2,4 @@
 pub mod Arithmetic
 pub mod Compare
 pub mod Convert
-pub mod Flush
 pub mod Integer
-pub mod Root
-pub mod Rounding

@@ -1,22 +1,14 @@
 // Conversions between the widths, by integer work on the bits.
 ghost use mathlib.Core.Path.{_≡_};
-ghost use Prim.Native.Nat.{_<_, _^_};
 ghost use lib.Ieee.{binary32, binary64, ofBits};
-ghost use Rattle.numbers.specs.Convert.{Lifted, IsNarrowed, narrow, widen};
-use super::flush::flush32;
-use super::rounding::Rounding;
-use super::rounding::Settled32;
-use super::rounding::cut;
-use super::rounding::settle32;
-use super::rounding::sign32;
-
-// How far up a number that is not 0 goes for its leading digit to be the 53rd.
-pub fn lift(t: u64) -> u64
-    requires { ⌜ (0 < t) × (t < 2 ^ 53) ⌝ }
-    ensures { λ r. ⌜ Lifted t r ⌝ }
-{
-    (u64::leading_zeros(t) as u64) - 11
-}
+ghost use Rattle.numbers.specs.Convert.{IsNarrowed, narrow, widen};
+use rounding::flush::flush32;
+use rounding::lift::lift;
+use rounding::pack::Settled32;
+use rounding::pack::settle32;
+use rounding::pack::sign32;
+use rounding::rounding::Rounding;
+use rounding::rounding::cut;
 
 // A single's word as the bits of the double of the same value. A subnormal is moved up by its leading zeros.
 pub fn widen(b: u32) -> u64
@@ -43,8 +35,8 @@ pub fn widen(b: u32) -> u64
 }
 
 // A double's bits as the single that the mode asks for, rounded once.
-pub fn narrowed32(mode: Rounding, b: u64) -> Settled32
-    ensures { λ r. ⌜ IsNarrowed mode binary32 (ofBits binary64 b) (r .bits) (r .exact) ⌝ }
+fn narrowed32(mode: Rounding, b: u64) -> Settled32
+    ensures { λ r. ⌜ IsNarrowed mode binary32 (ofBits binary64 b) (r .bits) (r .exact) (r .over) (r .tiny) ⌝ }
 {
     let negative = b >= 0x8000_0000_0000_0000;
     let field = b % 0x8000_0000_0000_0000 / 0x10_0000_0000_0000;
@@ -54,11 +46,15 @@ pub fn narrowed32(mode: Rounding, b: u64) -> Settled32
             return Settled32 {
                 bits: (sign32(negative) + 0x7F80_0000) as u32,
                 exact: true,
+                over: false,
+                tiny: false,
             };
         }
         return Settled32 {
             bits: 0x7FC0_0000,
             exact: true,
+            over: false,
+            tiny: false,
         };
     }
     if field == 0 {

@@ -2,23 +2,23 @@
 ghost use mathlib.Core.Path.{_≡_};
 ghost use Prim.Native.Nat.{_<_, _^_};
 ghost use lib.Ieee.{binary32, binary64};
-ghost use Rattle.numbers.specs.Rounding.{IsSettled};
+ghost use Rattle.rounding.specs.Pack.{IsSettled};
 ghost use Rattle.numbers.specs.Integer.{fromInteger, clamped, toInteger};
-use super::convert::lift;
 use super::convert::widen;
-use super::rounding::Rounding;
-use super::rounding::Settled32;
-use super::rounding::Settled64;
-use super::rounding::cut;
-use super::rounding::least;
-use super::rounding::settle32;
-use super::rounding::settle64;
-use super::rounding::sign32;
+use rounding::lift::lift;
+use rounding::pack::Settled32;
+use rounding::pack::Settled64;
+use rounding::pack::settle32;
+use rounding::pack::settle64;
+use rounding::pack::sign32;
+use rounding::rounding::Rounding;
+use rounding::rounding::cut;
+use rounding::rounding::least;
 
 // A whole number as a single, rounded. Of its 53 digits 29 are dropped, and it is never too large.
-pub fn whole32(mode: Rounding, negative: bool, n: u64) -> Settled32
+fn whole32(mode: Rounding, negative: bool, n: u64) -> Settled32
     requires { ⌜ n < 2 ^ 53 ⌝ }
-    ensures { λ r. ⌜ IsSettled mode binary32 negative n 1 (r .bits) (r .exact) ⌝ }
+    ensures { λ r. ⌜ IsSettled mode binary32 negative n 1 (r .bits) (r .exact) (r .over) (r .tiny) ⌝ }
 {
     if n == 0 {
         return settle32(mode, negative, 0, 0);
@@ -28,13 +28,15 @@ pub fn whole32(mode: Rounding, negative: bool, n: u64) -> Settled32
     Settled32 {
         bits: (sign32(negative) + ((178 - up) * 0x80_0000 + c.kept)) as u32,
         exact: c.exact,
+        over: false,
+        tiny: false,
     }
 }
 
 // A whole number as a double.
-pub fn whole64(mode: Rounding, negative: bool, n: u64) -> Settled64
+fn whole64(mode: Rounding, negative: bool, n: u64) -> Settled64
     requires { ⌜ n < 2 ^ 53 ⌝ }
-    ensures { λ r. ⌜ IsSettled mode binary64 negative n 1 (r .bits) (r .exact) ⌝ }
+    ensures { λ r. ⌜ IsSettled mode binary64 negative n 1 (r .bits) (r .exact) (r .over) (r .tiny) ⌝ }
 {
     if n == 0 {
         return settle64(mode, negative, 0, 0);
@@ -76,7 +78,7 @@ pub fn from_integer64(signed: bool, w: u32) -> u64
 }
 
 // A whole number of the given sign as a word, brought to the nearest end of the range.
-pub fn clamp(signed: bool, negative: bool, n: u64) -> u32
+fn clamp(signed: bool, negative: bool, n: u64) -> u32
     ensures { λ r. ⌜ r ≡ clamped signed negative n ⌝ }
 {
     if signed {

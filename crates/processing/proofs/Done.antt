@@ -1,7 +1,7 @@
 -- From what a leaf does to what its word means, over the precision.
 use Prim.Native.Nat.{ℕ, zero, suc, _%_, _^_, _<_, _≤_}
 use native.Mathlib.Omega.{arith}
-use mathlib.Core.Path.{_≡_, refl, _∙_}
+use mathlib.Core.Path.{_≡_, refl, sym, _∙_}
 use mathlib.Core.Bool.{Bool, true, false, cond}
 use mathlib.Core.List.{List}
 use lib.Dec.{eqb}
@@ -9,43 +9,48 @@ use lib.ListN.{getD, List·getD-eq-default}
 use lib.Ieee.{Format, binary32, binary64}
 use borrow.Author.Tests.{ne-eqb}
 use Rattle.bits.specs.Field.{field, bitOf}
-use Rattle.machine.specs.declared.Machine.{Machine}
 use Rattle.machine.specs.Machine.{withS, withFpscr}
 use Rattle.machine.specs.Place.{state}
 use Rattle.numbers.specs.declared.arithmetic.Arithmetic.{Arithmetic}
-use Rattle.meaning.specs.Step.{Step, step, after, once}
+use Rattle.numbers.specs.declared.arithmetic.Arithmetic.the-variants.{Divide}
+use Rattle.meaning.specs.Step.{Step, once}
 use Rattle.meaning.specs.Tree.{Tree, go}
 use Rattle.meaning.proofs.Laws.{plain-ask, plain-family, plain-once}
 use Rattle.processing.specs.declared.Processed.{Processed}
 use Rattle.processing.specs.declared.Processed.the-variants.{Done, Undefined}
-use Rattle.processing.specs.Vector.{iterationsOf}
-use Rattle.processing.specs.Operation.{undefined, extensionBy, arithmetics, operationBy, kindOf, operationOf}
-use Rattle.processing.specs.Data.{regD, regN, regM, compareStep, compareZeroStep, fromStep, stepping, dyadicStep, monadicStep, dyadic, monadic, arithmeticAt, undefinedTree, operationTree, dataTree, extensionTree, wordTree, dyadicTree, integerTree, Handled}
+use Rattle.steps.specs.Vector.{iterationsOf, monadicStep}
+use Rattle.steps.specs.Register.{SteppedWith, Iterated}
+use Rattle.processing.specs.Fields.{regD, regN, regM, kindOf, kinds, arithmeticAt}
+use Rattle.processing.specs.Operation.{undefined, extensionBy, arithmetics, operationBy, operationOf}
+use Rattle.steps.specs.Arithmetic.{dyadicStep}
+use Rattle.steps.specs.Compare.{compareStep, compareZeroStep}
+use Rattle.conversions.specs.Integer.{fromStep}
+use Rattle.processing.specs.Data.{stepping, dyadic, monadic, undefinedTree, operationTree, dataTree, extensionTree, wordTree, dyadicTree, integerTree, Handled}
 
 module _ (w : ℕ) (s s′ : List ℕ) (fpscr : ℕ) (t : Bool → Tree) where
   -- a stepping word
   stepping-done : (f : Format) (d : ℕ) (each : ℕ → ℕ → Step) → ((thumb : Bool) → t thumb ≡ stepping f d each)
-      → ((q : Machine) (v : List ℕ) → state (withS q s′) v ≡ after (iterationsOf f (fpscr % 2 ^ 28) d) (each (fpscr % 2 ^ 28)) (state (withS q s) v))
+      → Iterated (iterationsOf f (fpscr % 2 ^ 28) d) (each (fpscr % 2 ^ 28)) s s′
       → Handled t w s fpscr s′ (Done fpscr)
   stepping-done f d each e h thumb q v =
       rw (e thumb)
       (plain-ask _ _ _ _ (plain-family _ (each (fpscr % 2 ^ 28)) (state (withS (withFpscr q fpscr) s) v) _ (h (withFpscr q fpscr) v)))
 
   pub dyadic-done : (f : Format) (kind k : Arithmetic) (d n m : ℕ) → ((thumb : Bool) → t thumb ≡ dyadic f w kind) → k ≡ kind → d ≡ regD f w → n ≡ regN f w → m ≡ regM f w
-      → ((q : Machine) (v : List ℕ) → state (withS q s′) v ≡ after (iterationsOf f (fpscr % 2 ^ 28) d) (dyadicStep f (fpscr % 2 ^ 28) k d n m) (state (withS q s) v))
+      → Iterated (iterationsOf f (fpscr % 2 ^ 28) d) (dyadicStep f (fpscr % 2 ^ 28) k d n m) s s′
       → Handled t w s fpscr s′ (Done fpscr)
   dyadic-done f kind k d n m e k′ d′ n′ m′ h =
       stepping-done f (regD f w) (λ c. dyadicStep f c kind (regD f w) (regN f w) (regM f w)) e (λ q v. rw (← k′, ← d′, ← n′, ← m′) (h q v))
 
   pub monadic-done : (f : Format) (one : ℕ → ℕ → ℕ → Step) (d m : ℕ) → ((thumb : Bool) → t thumb ≡ monadic f w one) → d ≡ regD f w → m ≡ regM f w
-      → ((q : Machine) (v : List ℕ) → state (withS q s′) v ≡ after (iterationsOf f (fpscr % 2 ^ 28) d) (monadicStep f (fpscr % 2 ^ 28) (one (fpscr % 2 ^ 28)) d m) (state (withS q s) v))
+      → Iterated (iterationsOf f (fpscr % 2 ^ 28) d) (monadicStep f (fpscr % 2 ^ 28) (one (fpscr % 2 ^ 28)) d m) s s′
       → Handled t w s fpscr s′ (Done fpscr)
   monadic-done f one d m e d′ m′ h =
       stepping-done f (regD f w) (λ c. monadicStep f c (one c) (regD f w) (regM f w)) e (λ q v. rw (← d′, ← m′) (h q v))
 
   -- a word of one step, of the registers d and m
   pub once-done : (fpscr′ : ℕ) (one : ℕ → ℕ → Step) (d m d₁ m₁ : ℕ) → ((thumb : Bool) → t thumb ≡ go (once (one d₁ m₁))) → d ≡ d₁ → m ≡ m₁
-      → ((q : Machine) (v : List ℕ) → state (withS (withFpscr q fpscr′) s′) v ≡ step (one d m) (state (withS (withFpscr q fpscr) s) v))
+      → SteppedWith (one d m) fpscr s fpscr′ s′
       → Handled t w s fpscr s′ (Done fpscr′)
   once-done fpscr′ one d m d₁ m₁ e d′ m′ h thumb q v =
       rw (e thumb) (plain-once (one d₁ m₁) (state (withS (withFpscr q fpscr) s) v) _ (rw (← d′, ← m′) (h q v)))
@@ -118,6 +123,11 @@ module _ (f : Format) (w : ℕ) (thumb : Bool) where
   pub word-none : (k : ℕ) → k ≡ kindOf w → 9 ≤ k → (k ≡ 15 → ⊥) → wordTree f w thumb ≡ undefinedTree thumb w
   unfolding operationOf operationBy operationTree arithmetics
   word-none k p h e = rw (← p, ne-eqb _ _ e, List·getD-eq-default arithmetics undefined h)
+
+-- every kind from 8 on is a division
+pub divide-from : (k : ℕ) → 8 ≤ k → Divide ≡ arithmeticAt k
+unfolding arithmeticAt
+divide-from k h = sym (List·getD-eq-default kinds Divide h)
 
 -- ---- the coprocessor
 

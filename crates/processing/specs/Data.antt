@@ -1,123 +1,46 @@
 -- The meaning of a data-processing word (vfp.rs `data_processing` and `extension`).
 use mathlib.Core.Path.{_≡_}
-use Prim.Native.Nat.{ℕ, _+_, _-_, _*_, _/_, _%_, _^_}
+use Prim.Native.Nat.{ℕ, _+_, _-_, _%_, _^_}
 use mathlib.Core.Bool.{Bool, true, false, cond}
-use mathlib.Core.List.{List, [], _∷_}
+use mathlib.Core.List.{List, []}
 use lib.Dec.{eqb}
-use lib.ListN.{getD}
 use lib.Ieee.{Format, binary32, binary64}
 use Rattle.bits.specs.Field.{field, bitOf}
-use Rattle.machine.specs.Registers.{sregOf, dregOf, regOf}
 use Rattle.machine.specs.declared.Machine.{Machine}
 use Rattle.machine.specs.Machine.{withS, withFpscr}
-use Rattle.machine.specs.Place.{Place, core, flags, control, sWord, state}
+use Rattle.machine.specs.Place.{core, control, state}
 use Rattle.numbers.specs.declared.arithmetic.Arithmetic.{Arithmetic}
 use Rattle.numbers.specs.declared.arithmetic.Arithmetic.the-variants.{MultiplyAccumulate, MultiplySubtract, NegateMultiplySubtract, NegateMultiplyAccumulate, Multiply, NegateMultiply, Add, Subtract, Divide}
-use Rattle.numbers.specs.declared.rounding.Rounding.{Rounding}
-use Rattle.numbers.specs.declared.rounding.Rounding.the-variants.{Zero}
-use Rattle.numbers.specs.Arithmetic.{arithmetic, accumulates}
-use Rattle.numbers.specs.Root.{squareRoot}
-use Rattle.numbers.specs.Convert.{narrow, widen}
-use Rattle.numbers.specs.Integer.{fromInteger, toInteger}
-use Rattle.numbers.specs.Compare.{compareFlags}
-use Rattle.numbers.specs.Rounding.{roundingOf}
-use Rattle.meaning.specs.Step.{Write, Step, Act, fst, rest, snd, once}
+use Rattle.meaning.specs.Step.{Step, once}
 use Rattle.meaning.specs.Stop as Stop
 use Rattle.meaning.specs.Tree.{Tree, stop, go, ask, out, on, plain}
-use Rattle.processing.specs.Vector.{bankOf, iterationsOf, strideOf, stepOf, secondOf}
+use Rattle.steps.specs.declared.sign.SignOperation.the-variants.{Copy, Absolute, Negate}
+use Rattle.steps.specs.Vector.{iterationsOf, monadicStep}
+use Rattle.steps.specs.Arithmetic.{dyadicStep}
+use Rattle.steps.specs.Sign.{signStep}
+use Rattle.steps.specs.Root.{rootStep}
+use Rattle.steps.specs.Compare.{compareStep, compareZeroStep}
+use Rattle.conversions.specs.Width.{widenStep, narrowStep}
+use Rattle.conversions.specs.Integer.{fromStep, truncateStep, roundStep}
+use Rattle.processing.specs.Fields.{regD, regN, regM, arithmeticAt}
 use Rattle.processing.specs.Operation.{Operation, extensionBy, operationOf, fmac, fnmac, fmsc, fnmsc, fmul, fnmul, fadd, fsub, fdiv, fcpy, fabs, fneg, fsqrt, fcmp, fcmpe, fcmpz, fcmpez, fcvt, fuito, fsito, ftoui, ftouiz, ftosi, ftosiz, undefined}
 use Rattle.processing.specs.declared.Processed.{Processed}
 use Rattle.processing.specs.declared.Processed.the-variants.{Done, Undefined}
-use Rattle.processing.specs.declared.sign.Sign.the-variants.{Kept, Cleared, Flipped}
-use Rattle.processing.specs.Register.{wordsOf, valuesOf, written, signStep}
-
--- the registers that a word names in a precision, and as a single whatever the precision
-abbrev pub regD : Format → ℕ → ℕ
-regD f w = regOf f (field w 12 15) (field w 22 22)
-
-abbrev pub regN : Format → ℕ → ℕ
-regN f w = regOf f (field w 16 19) (field w 7 7)
-
-abbrev pub regM : Format → ℕ → ℕ
-regM f w = regOf f (w % 16) (field w 5 5)
-
--- ---- one step
-
--- old d is read by an accumulate alone
-abbrev pub operands : Arithmetic → ℕ → ℕ → ℕ → List ℕ
-operands kind d n m = cond (accumulates kind) (n ∷ m ∷ d ∷ []) (n ∷ m ∷ [])
-
-abbrev pub arithmeticStep : Format → ℕ → Arithmetic → ℕ → ℕ → ℕ → Step
-arithmeticStep f c kind d n m =
-    written f d (wordsOf f (operands kind d n m))
-    (λ vs. let x = valuesOf f vs in arithmetic f c kind (fst x) (snd x) (fst (rest (rest x))))
-
-abbrev pub rootStep : Format → ℕ → ℕ → ℕ → Step
-rootStep f c d m = written f d (wordsOf f (m ∷ [])) (λ vs. squareRoot f c (fst (valuesOf f vs)))
-
--- a compare sets FPSCR 31:28 alone
-abbrev pub compareStep : Format → ℕ → ℕ → Step
-compareStep f d m =
-    record { target = flags; sources = wordsOf f (d ∷ m ∷ []); value = λ vs. let x = valuesOf f vs in compareFlags f (fst x) (snd x) } ∷ []
-
-abbrev pub compareZeroStep : Format → ℕ → Step
-compareZeroStep f d = record { target = flags; sources = wordsOf f (d ∷ []); value = λ vs. compareFlags f (fst (valuesOf f vs)) 0 } ∷ []
-
--- between the widths: narrowing flushes, so FPSCR 27:0 is a source
-abbrev pub widenStep : ℕ → ℕ → Step
-widenStep d m = written binary64 d (wordsOf binary32 (m ∷ [])) (λ vs. widen (fst vs))
-
-abbrev pub narrowStep : ℕ → ℕ → Step
-narrowStep d m =
-    record { target = sWord d; sources = control ∷ wordsOf binary64 (m ∷ []); value = λ vs. narrow (fst vs) (fst (valuesOf binary64 (rest vs))) } ∷ []
-
--- an integer stands in a single
-abbrev pub fromStep : Format → Bool → ℕ → ℕ → Step
-fromStep f sign d m = written f d (sWord m ∷ []) (λ vs. fromInteger f sign (fst vs))
-
--- to an integer, towards zero, and by the mode of FPSCR 23:22
-abbrev pub truncateStep : Format → Bool → ℕ → ℕ → Step
-truncateStep f sign d m = record { target = sWord d; sources = wordsOf f (m ∷ []); value = λ vs. toInteger f Zero sign (fst (valuesOf f vs)) } ∷ []
-
-abbrev pub roundStep : Format → Bool → ℕ → ℕ → Step
-roundStep f sign d m =
-    record {
-      target = sWord d;
-      sources = control ∷ wordsOf f (m ∷ []);
-      value = λ vs. toInteger f (roundingOf (fst vs)) sign (fst (valuesOf f (rest vs)));
-    }
-    ∷ []
 
 -- coprocessor 10 widens and 11 narrows
 abbrev pub convertStep : Format → ℕ → Step
 convertStep binary32 w = widenStep (regD binary64 w) (regM binary32 w)
 convertStep binary64 w = narrowStep (regD binary32 w) (regM binary64 w)
 
--- ---- a word
-
 -- a stepping word asks for FPSCR 27:0, and makes so many iterations in turn
 abbrev pub stepping : Format → ℕ → (ℕ → ℕ → Step) → Tree
 stepping f d each = ask control (λ c. go (record { count = iterationsOf f c d; each = each c; tail = [] }))
-
--- iteration i: d and n step, and m unless it is in bank 0
-abbrev pub dyadicStep : Format → ℕ → Arithmetic → ℕ → ℕ → ℕ → ℕ → Step
-dyadicStep f c kind d n m i = arithmeticStep f c kind (stepOf (bankOf f) (strideOf c) d i) (stepOf (bankOf f) (strideOf c) n i) (secondOf (bankOf f) (strideOf c) m i)
-
-abbrev pub monadicStep : Format → ℕ → (ℕ → ℕ → Step) → ℕ → ℕ → ℕ → Step
-monadicStep f c one d m i = one (stepOf (bankOf f) (strideOf c) d i) (secondOf (bankOf f) (strideOf c) m i)
 
 abbrev pub dyadic : Format → ℕ → Arithmetic → Tree
 dyadic f w kind = stepping f (regD f w) (λ c. dyadicStep f c kind (regD f w) (regN f w) (regM f w))
 
 abbrev pub monadic : Format → ℕ → (ℕ → ℕ → ℕ → Step) → Tree
 monadic f w one = stepping f (regD f w) (λ c. monadicStep f c (one c) (regD f w) (regM f w))
-
--- the kind that bits 23, 21, 20 and 6 name as a number below 9
-abbrev pub kinds : List Arithmetic
-kinds = MultiplyAccumulate ∷ MultiplySubtract ∷ NegateMultiplySubtract ∷ NegateMultiplyAccumulate ∷ Multiply ∷ NegateMultiply ∷ Add ∷ Subtract ∷ []
-
-unfoldable pub arithmeticAt : ℕ → Arithmetic
-arithmeticAt k = getD kinds k Divide
 
 -- Undefined reports the word's own address: r15 is two words ahead of it, in Thumb two halfwords
 abbrev pub behind : Bool → ℕ
@@ -136,9 +59,9 @@ operationTree thumb f w fnmul = dyadic f w NegateMultiply
 operationTree thumb f w fadd = dyadic f w Add
 operationTree thumb f w fsub = dyadic f w Subtract
 operationTree thumb f w fdiv = dyadic f w Divide
-operationTree thumb f w fcpy = monadic f w (λ c. signStep f Kept)
-operationTree thumb f w fabs = monadic f w (λ c. signStep f Cleared)
-operationTree thumb f w fneg = monadic f w (λ c. signStep f Flipped)
+operationTree thumb f w fcpy = monadic f w (λ c. signStep f Copy)
+operationTree thumb f w fabs = monadic f w (λ c. signStep f Absolute)
+operationTree thumb f w fneg = monadic f w (λ c. signStep f Negate)
 operationTree thumb f w fsqrt = monadic f w (rootStep f)
 operationTree thumb f w fcmp = go (once (compareStep f (regD f w) (regM f w)))
 operationTree thumb f w fcmpe = go (once (compareStep f (regD f w) (regM f w)))
@@ -167,10 +90,6 @@ extensionTree f w thumb = operationTree thumb f w (extensionBy (field w 16 19) (
 
 abbrev pub wordTree : Format → ℕ → Bool → Tree
 wordTree f w thumb = operationTree thumb f w (operationOf w)
-
--- the same by the word first
-abbrev pub treeOf : ℕ → Bool → Tree
-treeOf w thumb = dataTree thumb w
 
 -- arithmetic of a kind by its number, and a conversion to an integer
 abbrev pub dyadicTree : Format → ℕ → ℕ → Bool → Tree

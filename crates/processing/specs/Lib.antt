@@ -1,5 +1,4 @@
 -- What the crate's contracts mean.
-pub mod Vector
+pub mod Fields
 pub mod Operation
-pub mod Register
 pub mod Data

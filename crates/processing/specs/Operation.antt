@@ -5,6 +5,7 @@ use mathlib.Core.List.{List, [], _∷_}
 use lib.Dec.{eqb}
 use lib.ListN.{getD}
 use Rattle.bits.specs.Field.{field, bitOf}
+use Rattle.processing.specs.Fields.{kindOf}
 
 pub data Operation : Type 0 where
   -- d + n × m, d − n × m, −d + n × m, −d − n × m
@@ -43,10 +44,6 @@ arithmetics = fmac ∷ fnmac ∷ fmsc ∷ fnmsc ∷ fmul ∷ fnmul ∷ fadd ∷ 
 unfoldable pub operationBy : ℕ → ℕ → Bool → Operation
 unfolding extensionBy arithmetics
 operationBy k opc2 top = cond (eqb k 15) (extensionBy opc2 top) (getD arithmetics k undefined)
-
--- bits 23, 21, 20 and 6 of a word
-abbrev pub kindOf : ℕ → ℕ
-kindOf w = field w 23 23 * 8 + field w 20 21 * 2 + field w 6 6
 
 unfoldable pub operationOf : ℕ → Operation
 unfolding operationBy

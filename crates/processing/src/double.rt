@@ -1,32 +1,30 @@
 // The words of coprocessor 11, in double precision.
-ghost use mathlib.Core.Path.{_≡_};
-ghost use Prim.Native.Nat.{_<_};
 ghost use lib.Ieee.{binary64};
 ghost use Rattle.processing.specs.declared.Processed.the-variants.{Done};
 ghost use Rattle.processing.specs.Data.{Handled, extensionTree, wordTree, dyadicTree, integerTree};
 use super::Processed;
-use super::arithmetic::arithmetic_doubles;
-use super::arithmetic::arithmetic_of;
-use super::compare::compare_double;
-use super::compare::compare_double_zero;
-use super::convert::from_integer_double;
-use super::convert::narrow_double;
-use super::convert::round_double;
-use super::convert::truncate_double;
+use super::fields::arithmetic_of;
 use super::fields::double_d;
 use super::fields::double_m;
 use super::fields::double_n;
 use super::fields::kind;
 use super::fields::single_d;
 use super::fields::single_m;
-use super::root::root_doubles;
-use super::sign::Sign;
-use super::sign::sign_doubles;
 use bits::field::bit;
 use bits::field::bits;
+use conversions::integer::from_integer_double;
+use conversions::integer::round_double;
+use conversions::integer::truncate_double;
+use conversions::width::narrow_double;
+use steps::arithmetic::arithmetic_doubles;
+use steps::compare::compare_double;
+use steps::compare::compare_double_zero;
+use steps::root::root_doubles;
+use steps::sign::SignOperation;
+use steps::sign::sign_doubles;
 
 // Bits 23, 21, 20 and 6 tell the arithmetic from the extension group.
-pub fn process_double(s: &mut [u32; 32], fpscr: u32, op: u32) -> Processed
+pub(crate) fn process_double(s: &mut [u32; 32], fpscr: u32, op: u32) -> Processed
     ensures { λ r. ⌜ Handled (wordTree binary64 op) op (now (s .entry)) fpscr (now (s .exit)) r ⌝ }
 {
     let k = kind(op);
@@ -50,7 +48,7 @@ fn dyadic_double(s: &mut [u32; 32], fpscr: u32, op: u32, k: u32) -> Processed
 }
 
 // Unary operations, comparisons and conversions.
-pub fn extension_double(s: &mut [u32; 32], fpscr: u32, op: u32) -> Processed
+fn extension_double(s: &mut [u32; 32], fpscr: u32, op: u32) -> Processed
     ensures { λ r. ⌜ Handled (extensionTree binary64 op) op (now (s .entry)) fpscr (now (s .exit)) r ⌝ }
 {
     let opc2 = bits(op, 16, 19);
@@ -62,7 +60,7 @@ pub fn extension_double(s: &mut [u32; 32], fpscr: u32, op: u32) -> Processed
                 sign_doubles(
                     s,
                     fpscr % 0x1000_0000,
-                    Sign::Cleared,
+                    SignOperation::Absolute,
                     double_d(op),
                     double_m(op),
                 );
@@ -71,7 +69,7 @@ pub fn extension_double(s: &mut [u32; 32], fpscr: u32, op: u32) -> Processed
             sign_doubles(
                 s,
                 fpscr % 0x1000_0000,
-                Sign::Kept,
+                SignOperation::Copy,
                 double_d(op),
                 double_m(op),
             );
@@ -86,7 +84,7 @@ pub fn extension_double(s: &mut [u32; 32], fpscr: u32, op: u32) -> Processed
             sign_doubles(
                 s,
                 fpscr % 0x1000_0000,
-                Sign::Flipped,
+                SignOperation::Negate,
                 double_d(op),
                 double_m(op),
             );

@@ -1,16 +1,9 @@
 // Data processing over lent singles: the arithmetic and the extension group, in both precisions.
-pub mod arithmetic;
-pub mod compare;
-pub mod convert;
-pub mod double;
+mod double;
 pub mod fields;
-pub mod root;
-pub mod sign;
-pub mod single;
-pub mod vector;
+mod single;
 
-ghost use mathlib.Core.Path.{_≡_};
-ghost use Rattle.processing.specs.Data.{Handled, treeOf};
+ghost use Rattle.processing.specs.Data.{dataTree, Handled};
 use bits::field::bits;
 use double::process_double;
 use single::process_single;
@@ -23,7 +16,7 @@ pub enum Processed {
 
 // The word on the singles, with FPSCR by value.
 pub fn data_processing(s: &mut [u32; 32], fpscr: u32, op: u32) -> Processed
-    ensures { λ r. ⌜ Handled (treeOf op) op (now (s .entry)) fpscr (now (s .exit)) r ⌝ }
+    ensures { λ r. ⌜ Handled (λ thumb. dataTree thumb op) op (now (s .entry)) fpscr (now (s .exit)) r ⌝ }
 {
     let coproc = bits(op, 8, 11);
     if coproc == 10 {

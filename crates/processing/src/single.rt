@@ -1,31 +1,29 @@
 // The words of coprocessor 10, in single precision.
-ghost use mathlib.Core.Path.{_≡_};
-ghost use Prim.Native.Nat.{_<_};
 ghost use lib.Ieee.{binary32};
 ghost use Rattle.processing.specs.declared.Processed.the-variants.{Done};
 ghost use Rattle.processing.specs.Data.{Handled, extensionTree, wordTree, dyadicTree, integerTree};
 use super::Processed;
-use super::arithmetic::arithmetic_of;
-use super::arithmetic::arithmetic_singles;
-use super::compare::compare_single;
-use super::compare::compare_single_zero;
-use super::convert::from_integer_single;
-use super::convert::round_single;
-use super::convert::truncate_single;
-use super::convert::widen_single;
+use super::fields::arithmetic_of;
 use super::fields::double_d;
 use super::fields::kind;
 use super::fields::single_d;
 use super::fields::single_m;
 use super::fields::single_n;
-use super::root::root_singles;
-use super::sign::Sign;
-use super::sign::sign_singles;
 use bits::field::bit;
 use bits::field::bits;
+use conversions::integer::from_integer_single;
+use conversions::integer::round_single;
+use conversions::integer::truncate_single;
+use conversions::width::widen_single;
+use steps::arithmetic::arithmetic_singles;
+use steps::compare::compare_single;
+use steps::compare::compare_single_zero;
+use steps::root::root_singles;
+use steps::sign::SignOperation;
+use steps::sign::sign_singles;
 
 // Bits 23, 21, 20 and 6 tell the arithmetic from the extension group.
-pub fn process_single(s: &mut [u32; 32], fpscr: u32, op: u32) -> Processed
+pub(crate) fn process_single(s: &mut [u32; 32], fpscr: u32, op: u32) -> Processed
     ensures { λ r. ⌜ Handled (wordTree binary32 op) op (now (s .entry)) fpscr (now (s .exit)) r ⌝ }
 {
     let k = kind(op);
@@ -49,7 +47,7 @@ fn dyadic_single(s: &mut [u32; 32], fpscr: u32, op: u32, k: u32) -> Processed
 }
 
 // Unary operations, comparisons and conversions.
-pub fn extension_single(s: &mut [u32; 32], fpscr: u32, op: u32) -> Processed
+fn extension_single(s: &mut [u32; 32], fpscr: u32, op: u32) -> Processed
     ensures { λ r. ⌜ Handled (extensionTree binary32 op) op (now (s .entry)) fpscr (now (s .exit)) r ⌝ }
 {
     let opc2 = bits(op, 16, 19);
@@ -61,7 +59,7 @@ pub fn extension_single(s: &mut [u32; 32], fpscr: u32, op: u32) -> Processed
                 sign_singles(
                     s,
                     fpscr % 0x1000_0000,
-                    Sign::Cleared,
+                    SignOperation::Absolute,
                     single_d(op),
                     single_m(op),
                 );
@@ -70,7 +68,7 @@ pub fn extension_single(s: &mut [u32; 32], fpscr: u32, op: u32) -> Processed
             sign_singles(
                 s,
                 fpscr % 0x1000_0000,
-                Sign::Kept,
+                SignOperation::Copy,
                 single_d(op),
                 single_m(op),
             );
@@ -85,7 +83,7 @@ pub fn extension_single(s: &mut [u32; 32], fpscr: u32, op: u32) -> Processed
             sign_singles(
                 s,
                 fpscr % 0x1000_0000,
-                Sign::Flipped,
+                SignOperation::Negate,
                 single_d(op),
                 single_m(op),
             );

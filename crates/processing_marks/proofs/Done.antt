@@ -11,23 +11,25 @@ use Rattle.machine.specs.Machine.{withFpscr}
 use Rattle.machine.specs.Place.{control, core, state}
 use Rattle.meaning.specs.declared.Known.{Known}
 use Rattle.meaning.specs.Map.{mapFrom}
-use Rattle.meaning.specs.Step.{Step, stepMarks, afterMarks, once}
+use Rattle.meaning.specs.Step.{Step, stepMarks, once}
 use Rattle.meaning.specs.Tree.{Tree, go}
 use Rattle.meaning.proofs.Laws.{marked-ask, marked-family, marked-once, marked-stop}
 use Rattle.numbers.specs.declared.arithmetic.Arithmetic.{Arithmetic}
 use Rattle.bits.specs.Field.{field, bitOf}
-use Rattle.processing.specs.declared.sign.Sign.{Sign}
-use Rattle.processing.specs.declared.sign.Sign.the-variants.{Kept, Cleared, Flipped}
+use Rattle.steps.specs.declared.sign.SignOperation.{SignOperation}
+use Rattle.steps.specs.declared.sign.SignOperation.the-variants.{Copy, Absolute, Negate}
 use Rattle.processing.proofs.Done.{extension-is}
-use Rattle.processing.specs.Vector.{iterationsOf}
+use Rattle.steps.specs.Vector.{iterationsOf, monadicStep}
 use Rattle.processing.specs.Operation.{extensionBy}
-use Rattle.processing.specs.Register.{signStep}
-use Rattle.processing.specs.Data.{regD, regN, regM, stepping, dyadicStep, monadicStep, dyadic, monadic, undefinedTree, operationTree, extensionTree}
-use Rattle.processing_marks.specs.Marked.{Marked}
+use Rattle.steps.specs.Sign.{signStep}
+use Rattle.steps.specs.Arithmetic.{dyadicStep}
+use Rattle.processing.specs.Fields.{regD, regN, regM}
+use Rattle.processing.specs.Data.{stepping, dyadic, monadic, undefinedTree, operationTree, extensionTree}
+use Rattle.processing_marks.specs.Marked.{Marked, MarksIterated}
 
 module _ (fpscr : ℕ) (s s′ : List Bool) (k : Known) (t : Bool → Tree) where
   stepping-marked : (f : Format) (d : ℕ) (each : ℕ → ℕ → Step) → ((thumb : Bool) → t thumb ≡ stepping f d each)
-      → ((r : List Bool) (k : Known) (w : List ℕ) → mapFrom s′ r k w ≡ afterMarks (iterationsOf f (fpscr % 2 ^ 28) d) (each (fpscr % 2 ^ 28)) (mapFrom s r k w))
+      → MarksIterated (iterationsOf f (fpscr % 2 ^ 28) d) (each (fpscr % 2 ^ 28)) s s′
       → Marked t fpscr s k s′ k
   stepping-marked f d each e h thumb q v r w =
       rw (e thumb)
@@ -35,13 +37,13 @@ module _ (fpscr : ℕ) (s s′ : List Bool) (k : Known) (t : Bool → Tree) wher
       (marked-family _ (each (fpscr % 2 ^ 28)) (state (withFpscr q fpscr) v) (mapFrom s r k w) _ (h r k w)))
 
   pub dyadic-marked : (f : Format) (w₀ : ℕ) (kind k₁ : Arithmetic) (d n m : ℕ) → ((thumb : Bool) → t thumb ≡ dyadic f w₀ kind) → k₁ ≡ kind → d ≡ regD f w₀ → n ≡ regN f w₀ → m ≡ regM f w₀
-      → ((r : List Bool) (k : Known) (w : List ℕ) → mapFrom s′ r k w ≡ afterMarks (iterationsOf f (fpscr % 2 ^ 28) d) (dyadicStep f (fpscr % 2 ^ 28) k₁ d n m) (mapFrom s r k w))
+      → MarksIterated (iterationsOf f (fpscr % 2 ^ 28) d) (dyadicStep f (fpscr % 2 ^ 28) k₁ d n m) s s′
       → Marked t fpscr s k s′ k
   dyadic-marked f w₀ kind k₁ d n m e k′ d′ n′ m′ h =
       stepping-marked f (regD f w₀) (λ c. dyadicStep f c kind (regD f w₀) (regN f w₀) (regM f w₀)) e (λ r k w. rw (← k′, ← d′, ← n′, ← m′) (h r k w))
 
   pub monadic-marked : (f : Format) (w₀ : ℕ) (one : ℕ → ℕ → ℕ → Step) (d m : ℕ) → ((thumb : Bool) → t thumb ≡ monadic f w₀ one) → d ≡ regD f w₀ → m ≡ regM f w₀
-      → ((r : List Bool) (k : Known) (w : List ℕ) → mapFrom s′ r k w ≡ afterMarks (iterationsOf f (fpscr % 2 ^ 28) d) (monadicStep f (fpscr % 2 ^ 28) (one (fpscr % 2 ^ 28)) d m) (mapFrom s r k w))
+      → MarksIterated (iterationsOf f (fpscr % 2 ^ 28) d) (monadicStep f (fpscr % 2 ^ 28) (one (fpscr % 2 ^ 28)) d m) s s′
       → Marked t fpscr s k s′ k
   monadic-marked f w₀ one d m e d′ m′ h =
       stepping-marked f (regD f w₀) (λ c. monadicStep f c (one c) (regD f w₀) (regM f w₀)) e (λ r k w. rw (← d′, ← m′) (h r k w))
@@ -59,14 +61,14 @@ undefined-marked fpscr s k t w₀ e thumb q v r w =
 pub marked-as : (t u : Bool → Tree) (fpscr : ℕ) (s : List Bool) (k : Known) (s′ : List Bool) (k′ : Known) → ((thumb : Bool) → u thumb ≡ t thumb) → Marked t fpscr s k s′ k′ → Marked u fpscr s k s′ k′
 marked-as t u fpscr s k s′ k′ e h thumb q v r w = rw (e thumb) (h thumb q v r w)
 
-pub sign-either : (f : Format) (w : ℕ) (thumb b : Bool) → operationTree thumb f w (extensionBy 0 b) ≡ monadic f w (λ c. signStep f (cond b Cleared Kept))
+pub sign-either : (f : Format) (w : ℕ) (thumb b : Bool) → operationTree thumb f w (extensionBy 0 b) ≡ monadic f w (λ c. signStep f (cond b Absolute Copy))
 unfolding operationTree extensionBy
 sign-either f w thumb true = refl
 sign-either f w thumb false = refl
 
 -- what becomes of the sign, by bits 19:16 below 2 and bit 7: VMOV, VABS, VNEG
-abbrev pub changeOf : ℕ → Bool → Sign
-changeOf k b = cond (eqb k 0) (cond b Cleared Kept) Flipped
+abbrev pub changeOf : ℕ → Bool → SignOperation
+changeOf k b = cond (eqb k 0) (cond b Absolute Copy) Negate
 
 pub sign-below : (f : Format) (w k : ℕ) (b thumb : Bool) → k ≡ field w 16 19 → b ≡ bitOf w 7 → k < 2 → eqb k 1 && b ≡ false
     → extensionTree f w thumb ≡ monadic f w (λ c. signStep f (changeOf k b))

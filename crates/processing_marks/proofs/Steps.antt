@@ -8,13 +8,20 @@ use lib.ListN.{getD}
 use Rattle.machine.specs.Registers.{lowIndex, highIndex}
 use Rattle.machine.specs.Place.{Place, sWord}
 use Rattle.meaning.specs.declared.Known.{Known}
-use Rattle.meaning.specs.Map.{Map, mapFrom}
-use Rattle.meaning.specs.Step.{allKnown, stepMarks}
+use Rattle.meaning.specs.Map.{mapFrom}
+use Rattle.meaning.specs.Step.{Step, allKnown, stepMarks}
+use Rattle.meaning.proofs.Laws.{marks-none, marks-one}
 use Rattle.numbers.specs.declared.arithmetic.Arithmetic.{Arithmetic}
-use Rattle.processing.specs.declared.sign.Sign.{Sign}
-use Rattle.processing.specs.Register.{wordsOf, written, signStep}
-use Rattle.processing.specs.Data.{operands, arithmeticStep, rootStep, compareStep, compareZeroStep, widenStep, narrowStep, fromStep, truncateStep, roundStep}
-use Rattle.processing_marks.specs.Marked.{flagged}
+use Rattle.steps.specs.declared.sign.SignOperation.{SignOperation}
+use Rattle.steps.specs.Register.{wordsOf, written}
+use Rattle.steps.specs.Sign.{signStep}
+use Rattle.steps.specs.Arithmetic.{operands, arithmeticStep}
+use Rattle.steps.specs.Root.{rootStep}
+use Rattle.steps.specs.Compare.{compareStep, compareZeroStep}
+use Rattle.conversions.specs.Width.{widenStep, narrowStep}
+use Rattle.conversions.specs.Integer.{fromStep, truncateStep, roundStep}
+use Rattle.steps.proofs.Loop.{Repeats}
+use Rattle.processing_marks.specs.Marked.{MarksStepped, MarksIterated, flagged}
 use Rattle.processing_marks.specs.Register.{knownIn, allIn, markIn, copyIn}
 
 pub and-assoc : (a b c : Bool) → ((a && b) && c) ≡ (a && (b && c))
@@ -33,7 +40,7 @@ module _ (s r : List Bool) (k : Known) (w : List ℕ) where
   written-marks binary32 d sources value = refl
   written-marks binary64 d sources value = refl
 
-  pub sign-marks : (f : Format) (sign : Sign) (d m : ℕ) → stepMarks (signStep f sign d m) (mapFrom s r k w) ≡ mapFrom (copyIn f s d m) r k w
+  pub sign-marks : (f : Format) (sign : SignOperation) (d m : ℕ) → stepMarks (signStep f sign d m) (mapFrom s r k w) ≡ mapFrom (copyIn f s d m) r k w
   sign-marks binary32 sign d m = refl
   sign-marks binary64 sign d m = refl
 
@@ -66,10 +73,21 @@ module _ (s r : List Bool) (k : Known) (w : List ℕ) where
   pub round-marks : (f : Format) (sign : Bool) (d m : ℕ) → stepMarks (roundStep f sign d m) (mapFrom s r k w) ≡ mapFrom (markIn binary32 s d (knownIn f s m && k .control)) r k w
   round-marks f sign d m = ap (λ (b : Bool). mapFrom (markIn binary32 s d (b && k .control)) r k w) (all-known f (m ∷ []))
 
--- the marks with those of the singles s
-abbrev pub singles : List Bool × Known × List ℕ → List Bool → Map
-singles p s = mapFrom s (p .0) (p .1) (p .2)
+-- steps on lent marks, and on marks that no sign operation tells apart
+abbrev pub onMarks : Repeats (List Bool) Step
+onMarks =
+    record {
+      one = MarksStepped;
+      all = MarksIterated;
+      none = λ each s r k w. marks-none each _;
+      next = λ i each s₀ s s′ h e r k w. e r k w ∙ marks-one i each _ _ (h r k w);
+    }
 
--- the same beside any sign
-abbrev pub signed : Sign × (List Bool × Known × List ℕ) → List Bool → Map
-signed p = singles (p .1)
+abbrev pub onSignMarks : Repeats (List Bool) (SignOperation → Step)
+onSignMarks =
+    record {
+      one = λ y s s′. (sign : SignOperation) → MarksStepped (y sign) s s′;
+      all = λ n each s s′. (sign : SignOperation) → MarksIterated n (λ i. each i sign) s s′;
+      none = λ each s sign r k w. marks-none (λ i. each i sign) _;
+      next = λ i each s₀ s s′ h e sign r k w. e sign r k w ∙ marks-one i (λ j. each j sign) _ _ (h sign r k w);
+    }

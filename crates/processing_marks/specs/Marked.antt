@@ -1,4 +1,4 @@
--- What a leaf over lent marks gives of a word with the tree t, FPSCR being as given.
+-- What a leaf over lent marks gives.
 use Prim.Native.Nat.{ℕ}
 use mathlib.Core.Path.{_≡_}
 use mathlib.Core.Bool.{Bool}
@@ -9,11 +9,19 @@ use Rattle.machine.specs.Machine.{withFpscr}
 use Rattle.machine.specs.Place.{state}
 use Rattle.meaning.specs.declared.Known.{Known}
 use Rattle.meaning.specs.Map.{mapFrom}
-use Rattle.meaning.specs.Step.{once}
+use Rattle.meaning.specs.Step.{Step, stepMarks, afterMarks, once}
 use Rattle.meaning.specs.Tree.{Tree, go}
 use Rattle.processing.specs.Data.{convertStep}
 use Rattle.meaning.specs.Hang.{marked}
 
+-- the marks of the singles after a step, and after the first n of a family, among any other marks
+abbrev pub MarksStepped : Step → List Bool → List Bool → Type 0
+MarksStepped x s s′ = (r : List Bool) (k : Known) (w : List ℕ) → mapFrom s′ r k w ≡ stepMarks x (mapFrom s r k w)
+
+abbrev pub MarksIterated : ℕ → (ℕ → Step) → List Bool → List Bool → Type 0
+MarksIterated n each s s′ = (r : List Bool) (k : Known) (w : List ℕ) → mapFrom s′ r k w ≡ afterMarks n each (mapFrom s r k w)
+
+-- the marks after a word with the tree t, FPSCR being as given
 abbrev pub Marked : (Bool → Tree) → ℕ → List Bool → Known → List Bool → Known → Type 0
 Marked t fpscr s k s′ k′ =
     (thumb : Bool) (q : Machine) (v : List ℕ) (r : List Bool) (w : List ℕ) → mapFrom s′ r k′ w ≡ marked (t thumb) (state (withFpscr q fpscr) v) (mapFrom s r k w)

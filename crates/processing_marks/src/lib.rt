@@ -1,17 +1,17 @@
 // The marks of data processing, over lent marks: the watched run's half beside crate processing.
-pub mod register;
-pub mod vector;
+mod register;
+mod vector;
 
 ghost use mathlib.Core.Path.{_≡_};
 ghost use mathlib.Core.Bool.{Bool};
 ghost use Prim.Native.Nat.{ℕ};
-ghost use Rattle.processing.specs.Vector.{precision};
-ghost use Rattle.processing.specs.Data.{treeOf, wordTree, extensionTree, dyadicTree, integerTree};
+ghost use Rattle.steps.specs.Vector.{precision};
+ghost use Rattle.processing.specs.Data.{dataTree, wordTree, extensionTree, integerTree};
 ghost use Rattle.processing_marks.specs.Marked.{Marked, flagged, convertTree};
 use bits::field::bit;
 use bits::field::bits;
 use meaning::Known;
-use processing::arithmetic::arithmetic_of;
+use processing::fields::arithmetic_of;
 use processing::fields::kind;
 use register::known;
 use register::mark;
@@ -23,7 +23,7 @@ use vector::mark_root;
 use vector::mark_sign;
 
 pub fn mark_data(ks: &mut [bool; 32], k: Known, fpscr: u32, op: u32) -> Known
-    ensures { λ k′. ⌜ Marked (treeOf op) fpscr (now (ks .entry)) k (now (ks .exit)) k′ ⌝ }
+    ensures { λ k′. ⌜ Marked (λ thumb. dataTree thumb op) fpscr (now (ks .entry)) k (now (ks .exit)) k′ ⌝ }
 {
     let coproc = bits(op, 8, 11);
     if coproc == 10 {

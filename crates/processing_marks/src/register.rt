@@ -1,11 +1,9 @@
 // The marks of a register: of a single its own, of a double those of both words. `double` says which numbering a number is of.
 ghost use mathlib.Core.Path.{_≡_};
-ghost use mathlib.Core.Bool.{cond};
-ghost use mathlib.Core.List.{[], _∷_};
 ghost use Prim.Native.Nat.{_<_};
-ghost use Rattle.numbers.specs.Arithmetic.{accumulates};
-ghost use Rattle.processing.specs.Vector.{precision};
-ghost use Rattle.processing.specs.Data.{regD, regN, regM, operands};
+ghost use Rattle.steps.specs.Vector.{precision};
+ghost use Rattle.steps.specs.Arithmetic.{operands};
+ghost use Rattle.processing.specs.Fields.{regD, regN, regM};
 ghost use Rattle.processing_marks.specs.Register.{knownIn, allIn, markIn, copyIn};
 use numbers::arithmetic::Arithmetic;
 use numbers::arithmetic::reads_d;
@@ -16,7 +14,7 @@ use processing::fields::single_d;
 use processing::fields::single_m;
 use processing::fields::single_n;
 
-pub fn known(ks: &[bool; 32], double: bool, n: usize) -> bool
+pub(crate) fn known(ks: &[bool; 32], double: bool, n: usize) -> bool
     ensures { λ b. ⌜ b ≡ knownIn (precision double) (now (ks .entry)) n ⌝ }
 {
     if double {
@@ -27,7 +25,7 @@ pub fn known(ks: &[bool; 32], double: bool, n: usize) -> bool
     ks[i]
 }
 
-pub fn mark(ks: &mut [bool; 32], double: bool, n: usize, b: bool)
+pub(crate) fn mark(ks: &mut [bool; 32], double: bool, n: usize, b: bool)
     ensures { λ _. ⌜ now (ks .exit) ≡ markIn (precision double) (now (ks .entry)) n b ⌝ }
 {
     if double {
@@ -41,7 +39,7 @@ pub fn mark(ks: &mut [bool; 32], double: bool, n: usize, b: bool)
 }
 
 // Word by word.
-pub fn copy(ks: &mut [bool; 32], double: bool, d: usize, m: usize)
+pub(crate) fn copy(ks: &mut [bool; 32], double: bool, d: usize, m: usize)
     ensures { λ _. ⌜ now (ks .exit) ≡ copyIn (precision double) (now (ks .entry)) d m ⌝ }
 {
     if double {
@@ -60,7 +58,7 @@ pub fn copy(ks: &mut [bool; 32], double: bool, d: usize, m: usize)
 }
 
 // Whether the operands of the arithmetic are known: old d counts for an accumulate alone.
-pub fn operands_known(
+pub(crate) fn operands_known(
     ks: &[bool; 32],
     double: bool,
     kind: Arithmetic,
@@ -77,7 +75,7 @@ pub fn operands_known(
 }
 
 // The registers that a word names.
-pub fn reg_d(op: u32, double: bool) -> usize
+pub(crate) fn reg_d(op: u32, double: bool) -> usize
     ensures { λ n. ⌜ (n ≡ regD (precision double) op) × (n < 32) ⌝ }
 {
     if double {
@@ -88,7 +86,7 @@ pub fn reg_d(op: u32, double: bool) -> usize
     x.0
 }
 
-pub fn reg_n(op: u32, double: bool) -> usize
+pub(crate) fn reg_n(op: u32, double: bool) -> usize
     ensures { λ n. ⌜ (n ≡ regN (precision double) op) × (n < 32) ⌝ }
 {
     if double {
@@ -99,7 +97,7 @@ pub fn reg_n(op: u32, double: bool) -> usize
     x.0
 }
 
-pub fn reg_m(op: u32, double: bool) -> usize
+pub(crate) fn reg_m(op: u32, double: bool) -> usize
     ensures { λ n. ⌜ (n ≡ regM (precision double) op) × (n < 32) ⌝ }
 {
     if double {

@@ -1,24 +1,20 @@
 // The marks of stepping words, iteration by iteration.
-ghost use mathlib.Core.Path.{_≡_};
-ghost use mathlib.Core.Bool.{Bool};
-ghost use mathlib.Core.List.{List};
-ghost use Prim.Native.Nat.{ℕ, _<_};
-ghost use Rattle.meaning.specs.declared.Known.{Known};
-ghost use Rattle.meaning.specs.Map.{mapFrom};
-ghost use Rattle.meaning.specs.Step.{afterMarks};
-ghost use Rattle.processing.specs.declared.sign.Sign.{Sign};
-ghost use Rattle.processing.specs.Vector.{precision, iterationsOf};
-ghost use Rattle.processing.specs.Register.{signStep};
-ghost use Rattle.processing.specs.Data.{dyadicStep, monadicStep, rootStep};
+ghost use Prim.Native.Nat.{_<_};
+ghost use Rattle.steps.specs.declared.sign.SignOperation.{SignOperation};
+ghost use Rattle.steps.specs.Vector.{precision, iterationsOf, monadicStep};
+ghost use Rattle.steps.specs.Sign.{signStep};
+ghost use Rattle.steps.specs.Arithmetic.{dyadicStep};
+ghost use Rattle.steps.specs.Root.{rootStep};
+ghost use Rattle.processing_marks.specs.Marked.{MarksIterated};
 use super::register::copy;
 use super::register::known;
 use super::register::mark;
 use super::register::operands_known;
 use numbers::arithmetic::Arithmetic;
-use processing::vector::Vector;
+use steps::vector::Vector;
 
 // Arithmetic: the target is known when every word read is.
-pub fn mark_arithmetic(
+pub(crate) fn mark_arithmetic(
     ks: &mut [bool; 32],
     control: u32,
     double: bool,
@@ -28,7 +24,7 @@ pub fn mark_arithmetic(
     m: usize,
 )
     requires { ⌜ (d < 32) × (n < 32) × (m < 32) ⌝ }
-    ensures { λ _. ⌜ ((r : List Bool) (k : Known) (w : List ℕ) → mapFrom (now (ks .exit)) r k w ≡ afterMarks (iterationsOf (precision double) control d) (dyadicStep (precision double) control kind d n m) (mapFrom (now (ks .entry)) r k w)) ⌝ }
+    ensures { λ _. ⌜ MarksIterated (iterationsOf (precision double) control d) (dyadicStep (precision double) control kind d n m) (now (ks .entry)) (now (ks .exit)) ⌝ }
 {
     let vector = Vector::new(control, double, d);
     let count = vector.iterations;
@@ -50,9 +46,9 @@ pub fn mark_arithmetic(
 }
 
 // Moves and sign changes: the marks are copied.
-pub fn mark_sign(ks: &mut [bool; 32], control: u32, double: bool, d: usize, m: usize)
+pub(crate) fn mark_sign(ks: &mut [bool; 32], control: u32, double: bool, d: usize, m: usize)
     requires { ⌜ (d < 32) × (m < 32) ⌝ }
-    ensures { λ _. ⌜ ((sign : Sign) (r : List Bool) (k : Known) (w : List ℕ) → mapFrom (now (ks .exit)) r k w ≡ afterMarks (iterationsOf (precision double) control d) (monadicStep (precision double) control (signStep (precision double) sign) d m) (mapFrom (now (ks .entry)) r k w)) ⌝ }
+    ensures { λ _. ⌜ ((sign : SignOperation) → MarksIterated (iterationsOf (precision double) control d) (monadicStep (precision double) control (signStep (precision double) sign) d m) (now (ks .entry)) (now (ks .exit))) ⌝ }
 {
     let vector = Vector::new(control, double, d);
     let count = vector.iterations;
@@ -71,9 +67,9 @@ pub fn mark_sign(ks: &mut [bool; 32], control: u32, double: bool, d: usize, m: u
 }
 
 // Roots: the target is known when every word of the operand is.
-pub fn mark_root(ks: &mut [bool; 32], control: u32, double: bool, d: usize, m: usize)
+pub(crate) fn mark_root(ks: &mut [bool; 32], control: u32, double: bool, d: usize, m: usize)
     requires { ⌜ (d < 32) × (m < 32) ⌝ }
-    ensures { λ _. ⌜ ((r : List Bool) (k : Known) (w : List ℕ) → mapFrom (now (ks .exit)) r k w ≡ afterMarks (iterationsOf (precision double) control d) (monadicStep (precision double) control (rootStep (precision double) control) d m) (mapFrom (now (ks .entry)) r k w)) ⌝ }
+    ensures { λ _. ⌜ MarksIterated (iterationsOf (precision double) control d) (monadicStep (precision double) control (rootStep (precision double) control) d m) (now (ks .entry)) (now (ks .exit)) ⌝ }
 {
     let vector = Vector::new(control, double, d);
     let count = vector.iterations;

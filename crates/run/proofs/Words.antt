@@ -11,7 +11,7 @@ use borrow.Author.Tests.{eqb-true, eq-eqb, ne-eqb, le-leb, lt-leb, lt-ltb, le-lt
 use Rattle.bits.specs.Field.{field, bitOf}
 use Rattle.bits.specs.Psr.{holds, psrOf}
 use Rattle.bits.proofs.Flags.{psr-nzcv}
-use Rattle.bits.proofs.Truth.{clash}
+use mathlib.Core.Bool.{true≢false}
 use Rattle.machine.specs.declared.Controls.{Controls}
 use Rattle.machine.specs.Machine.{assembled}
 use Rattle.machine.specs.Place.{State, state, core, nzcv}
@@ -21,7 +21,7 @@ use Rattle.meaning.proofs.Laws.{plain-stop, plain-ask, plain-nothing}
 use Rattle.memory.specs.LoadStore.{loadStoreTree}
 use Rattle.processing.specs.declared.Processed.{Processed}
 use Rattle.processing.specs.declared.Processed.the-variants.{Done, Undefined}
-use Rattle.processing.specs.Data.{dataTree, treeOf, Handled}
+use Rattle.processing.specs.Data.{dataTree, Handled}
 use Rattle.transfers.specs.Transfer.{transferTree}
 use Rattle.run.specs.Word.{foreignWord, classTree, conditioned, meaning}
 use Rattle.meaning.specs.Stop as S
@@ -43,9 +43,9 @@ module _ (base w : ℕ) (k : ℕ) (p : k ≡ field w 25 27) where
 
 -- ---- data processing in ARM state
 
-module _ (w : ℕ) (s r : List ℕ) (x : Controls) (s′ : List ℕ) (d : Processed) (h : Handled (treeOf w) w s (x .fpscr) s′ d) (v : List ℕ) where
-  at-arm : (y : Processed) → d ≡ y → Handled (treeOf w) w s (x .fpscr) s′ y
-  at-arm y e = subst (λ (z : Processed). Handled (treeOf w) w s (x .fpscr) s′ z) e h
+module _ (w : ℕ) (s r : List ℕ) (x : Controls) (s′ : List ℕ) (d : Processed) (h : Handled (λ thumb. dataTree thumb w) w s (x .fpscr) s′ d) (v : List ℕ) where
+  at-arm : (y : Processed) → d ≡ y → Handled (λ thumb. dataTree thumb w) w s (x .fpscr) s′ y
+  at-arm y e = subst (λ (z : Processed). Handled (λ thumb. dataTree thumb w) w s (x .fpscr) s′ z) e h
 
   pub data-done : (n : ℕ) → d ≡ Done n
       → out (state (assembled s′ r (record { fpscr = n; fpexc = x .fpexc; cpsr = x .cpsr }) false) v) on ≡ plain (dataTree false w) (state (assembled s r x false) v)
@@ -120,7 +120,7 @@ module _ (k : ℕ) (t : Tree) (st : State) where
   condition-holds o h e = asked true h o e (λ g. refl)
 
   pub condition-fails : holds k (st .machine .cpsr) ≡ false → out st on ≡ plain (conditioned k t) st
-  condition-fails h = asked false h (out st on) (plain-nothing st) (λ g. absurd (clash (sym (always k (st .machine .cpsr) (eqb-true k 14 g)) ∙ h)))
+  condition-fails h = asked false h (out st on) (plain-nothing st) (λ g. absurd (true≢false (sym (always k (st .machine .cpsr) (eqb-true k 14 g)) ∙ h)))
 
 -- a condition has four bits
 pub condition-field : (w k : ℕ) → k ≡ field w 28 31 → k % 16 ≡ field w 28 31

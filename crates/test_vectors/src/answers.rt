@@ -10,9 +10,9 @@ use numbers::integer::from_integer32;
 use numbers::integer::from_integer64;
 use numbers::integer::to_integer32;
 use numbers::integer::to_integer64;
-use numbers::root::square_root32;
-use numbers::root::square_root64;
-use numbers::rounding::rounding_of;
+use roots::root::square_root32;
+use roots::root::square_root64;
+use rounding::rounding::rounding_of;
 
 // A line's work: the operation's number, the control word, the operands and the old d.
 pub struct Work {

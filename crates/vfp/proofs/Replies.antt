@@ -13,7 +13,7 @@ use Rattle.meaning.specs.Tree.{Tree, Out, out, on, exitOf, plain}
 use Rattle.meaning.proofs.Laws.{plain-stop, plain-ask}
 use Rattle.processing.specs.declared.Processed.{Processed}
 use Rattle.processing.specs.declared.Processed.the-variants.{Done, Undefined}
-use Rattle.processing.specs.Data.{behind, dataTree, treeOf, undefinedTree, Handled}
+use Rattle.processing.specs.Data.{behind, dataTree, undefinedTree, Handled}
 use Rattle.transfers.specs.Transfer.{afterTransfer}
 use Rattle.memory.specs.LoadStore.{loadStoreTree}
 use Rattle.limits.specs.Limit.{windowLimit}
@@ -23,16 +23,16 @@ use Rattle.vfp.specs.Call.{reply, loadStoreReply}
 pub replied : (o : Out) (t : Tree) (st : State) → o ≡ plain t st → record { says = report (exitOf (o .next)); leaves = o .st } ≡ reply t st
 replied o t st e = ap (λ (x : Out). record { says = report (exitOf (x .next)); leaves = x .st }) e
 
-module _ (m : Machine) (w : ℕ) (s′ : List ℕ) (r : Processed) (h : Handled (treeOf w) w (m .s) (m .fpscr) s′ r) (v : List ℕ) where
+module _ (m : Machine) (w : ℕ) (s′ : List ℕ) (r : Processed) (h : Handled (λ thumb. dataTree thumb w) w (m .s) (m .fpscr) s′ r) (v : List ℕ) where
   pub data-done : (x : ℕ) → r ≡ Done x → record { says = report finished; leaves = state (withS (withFpscr m x) s′) v } ≡ reply (dataTree (m .thumb) w) (state m v)
   data-done x e =
       replied (out (state (withS (withFpscr m x) s′) v) on) (dataTree (m .thumb) w) (state m v)
-      (subst (λ (y : Processed). Handled (treeOf w) w (m .s) (m .fpscr) s′ y) e h (m .thumb) m v)
+      (subst (λ (y : Processed). Handled (λ thumb. dataTree thumb w) w (m .s) (m .fpscr) s′ y) e h (m .thumb) m v)
 
   pub data-undefined : (pc : ℕ) → r ≡ Undefined → pc ≡ (getD (m .r) 15 0 + (2 ^ 32 - behind (m .thumb))) % 2 ^ 32
       → record { says = report (undefined pc w); leaves = state m v } ≡ reply (dataTree (m .thumb) w) (state m v)
   data-undefined pc e p =
-      rw (p, subst (λ (y : Processed). Handled (treeOf w) w (m .s) (m .fpscr) s′ y) e h .1 (m .thumb))
+      rw (p, subst (λ (y : Processed). Handled (λ thumb. dataTree thumb w) w (m .s) (m .fpscr) s′ y) e h .1 (m .thumb))
       (replied _ (undefinedTree (m .thumb) w) (state m v) (plain-ask (core 15) _ (state m v) _ (plain-stop _ (state m v))))
 
 -- a transfer, by whether it branched

@@ -7,7 +7,7 @@ use mathlib.Core.Bool.{true, false}
 use mathlib.Core.List.{List}
 use lib.ListN.{length, take, List·getD-eq-default, length-take}
 use borrow.Author.Tests.{lt-ltb, le-ltb, ne-eqb}
-use Rattle.bits.proofs.Truth.{clash}
+use mathlib.Core.Bool.{true≢false}
 use Rattle.machine.specs.declared.Machine.{Machine}
 use Rattle.machine.specs.Machine.{Sized}
 use Rattle.machine.specs.Place.{Place, single, core, word, flags, control, exc, nzcv, before, number, place, State, state, get}
@@ -64,12 +64,12 @@ module _ (μ : Map) (a b : State) (sized : Mapped μ) (ag : Agree μ a b) where
     where
       by : Dec (n < 32) → get a (single n) ≡ get b (single n)
       by (yes l) = at n (single n) (place-single n l) h
-      by (no l) = absurd (clash (sym h ∙ List·getD-eq-default (μ .marks .s) false (omega (arith, sized .s))))
+      by (no l) = absurd (true≢false (sym h ∙ List·getD-eq-default (μ .marks .s) false (omega (arith, sized .s))))
   by-place (core n) h = by (decLt n 16)
     where
       by : Dec (n < 16) → get a (core n) ≡ get b (core n)
       by (yes l) = at (32 + n) (core n) (place-core n l) h
-      by (no l) = absurd (clash (sym h ∙ List·getD-eq-default (μ .marks .r) false (omega (arith, sized .r))))
+      by (no l) = absurd (true≢false (sym h ∙ List·getD-eq-default (μ .marks .r) false (omega (arith, sized .r))))
   by-place (word n) h = at (before + n) (word n) (place-word n) h
   by-place flags h = at (number flags) flags place-flags h
   by-place control h = at (number control) control place-control h

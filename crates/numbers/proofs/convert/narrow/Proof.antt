@@ -30,7 +30,7 @@ flush32-requires : tie.Need-flush32-requires
 flush32-requires c κs = search needs
 
 returns-2 : tie.Need-returns-2
-returns-2 c = narrow-is (c .before .before .before .args .control) (c .before .before .before .args .b) _ _ _ (c .before .narrowed32 .ensures) (c .flush32 .ensures)
+returns-2 c = narrow-is (c .before .before .before .args .control) (c .before .before .before .args .b) _ _ (c .before .narrowed32 .ensures .bits-are) (c .flush32 .ensures)
 
 pub narrow-spec : {M : Type 1} → statement M
 narrow-spec =

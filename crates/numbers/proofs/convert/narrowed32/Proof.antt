@@ -2,7 +2,7 @@ use native.Mathlib.Omega.{arith}
 use mathlib.Core.Logic.{inl, inr}
 use lib.Dec.{leb, lit<}
 use lib.Ieee.{binary32}
-use Rattle.numbers.proofs.Settle.{sign-le}
+use Rattle.rounding.proofs.Settle.{sign-le}
 use Rattle.numbers.proofs.Narrow.{narrow-inf, narrow-nan, narrow-low, narrow-mid}
 use borrow.Author.Needs.{needs}
 use Rattle.numbers.proofs.convert.narrowed32.Statement.{statement}
@@ -30,7 +30,7 @@ settle32-requires : tie.Need-settle32-requires
 settle32-requires c κs = (omega arith, lit< tt, inl (lit< tt))
 
 returns-3 : tie.Need-returns-3
-returns-3 c = narrow-low (c .before .before .before .args .mode) binary32 (c .before .before .before .args .b) _ _ (c .before .if3 .taken) (c .settle32 .ensures)
+returns-3 c = narrow-low (c .before .before .before .args .mode) binary32 (c .before .before .before .args .b) _ _ _ _ (c .before .if3 .taken) (c .settle32 .ensures)
 
 add-settle32 : tie.Need-add-settle32
 add-settle32 c = search needs
@@ -45,7 +45,7 @@ settle32-requires-2 : tie.Need-settle32-requires-2
 settle32-requires-2 c κs = (omega arith, omega arith, inr (omega arith))
 
 returns-4 : tie.Need-returns-4
-returns-4 c = narrow-mid (c .before .before .before .args .mode) binary32 (c .before .before .before .args .b) _ _ (c .before .if3 .left) (c .before .before .if1 .left) (c .settle322 .ensures)
+returns-4 c = narrow-mid (c .before .before .before .args .mode) binary32 (c .before .before .before .args .b) _ _ _ _ (c .before .if3 .left) (c .before .before .if1 .left) (c .settle322 .ensures)
 
 pub narrowed32-spec : {M : Type 1} → statement M
 narrowed32-spec =

@@ -1,5 +1,5 @@
 use Rattle.numbers.proofs.Whole.{whole-zero, kept-few, whole-cut}
-use Rattle.numbers.proofs.Settle.{sign-le}
+use Rattle.rounding.proofs.Settle.{sign-le}
 use lib.Ieee.{binary32}
 use lib.Dec.{lit<}
 use mathlib.Core.Logic.{inl}
@@ -12,7 +12,7 @@ settle32-requires : tie.Need-settle32-requires
 settle32-requires c κs = (lit< tt, lit< tt, inl (lit< tt))
 
 returns : tie.Need-returns
-returns c = whole-zero (c .before .before .args .mode) binary32 (c .before .before .args .negative) (c .before .before .args .n) _ _ (c .before .if1 .taken) (c .settle32 .ensures)
+returns c = whole-zero (c .before .before .args .mode) binary32 (c .before .before .args .negative) (c .before .before .args .n) _ _ _ _ (c .before .if1 .taken) (c .settle32 .ensures)
 
 lift-requires : tie.Need-lift-requires
 lift-requires c κs = search needs

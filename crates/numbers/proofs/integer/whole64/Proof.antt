@@ -11,7 +11,7 @@ settle64-requires : tie.Need-settle64-requires
 settle64-requires c κs = (lit< tt, lit< tt, inl (lit< tt))
 
 returns : tie.Need-returns
-returns c = whole-zero (c .before .before .args .mode) binary64 (c .before .before .args .negative) (c .before .before .args .n) _ _ (c .before .if1 .taken) (c .settle64 .ensures)
+returns c = whole-zero (c .before .before .args .mode) binary64 (c .before .before .args .negative) (c .before .before .args .n) _ _ _ _ (c .before .if1 .taken) (c .settle64 .ensures)
 
 lift-requires : tie.Need-lift-requires
 lift-requires c κs = search needs
@@ -29,7 +29,7 @@ settle64-requires-2 : tie.Need-settle64-requires-2
 settle64-requires-2 c κs = (whole-ready (c .before .before .args .n) (c .lift .result) (c .lift .ensures) .0, omega arith, inr (whole-ready (c .before .before .args .n) (c .lift .result) (c .lift .ensures) .1))
 
 returns-2 : tie.Need-returns-2
-returns-2 c = whole-some (c .before .before .before .args .mode) binary64 (c .before .before .before .args .negative) (c .before .before .before .args .n) (c .before .lift .result) _ _ (c .before .lift .ensures) (c .settle642 .ensures)
+returns-2 c = whole-some (c .before .before .before .args .mode) binary64 (c .before .before .before .args .negative) (c .before .before .before .args .n) (c .before .lift .result) _ _ _ _ (c .before .lift .ensures) (c .settle642 .ensures)
 
 pub whole64-spec : {M : Type 1} → statement M
 whole64-spec =

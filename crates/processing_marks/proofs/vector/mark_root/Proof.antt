@@ -3,50 +3,18 @@ use Prim.Native.Nat.{_-_}
 use mathlib.Core.Path.{sym}
 use native.Mathlib.Omega.{arith}
 use borrow.Author.Needs.{needs}
-use Rattle.processing.specs.Vector.{precision}
-use Rattle.meaning.specs.Step.{stepMarks, afterMarks}
-use Rattle.meaning.proofs.Laws.{marks-none, marks-one}
-use Rattle.processing.proofs.Turns.{Turning, may-go, begun, again, ended}
-use Rattle.processing.specs.Data.{rootStep}
-use Rattle.processing_marks.proofs.Steps.{singles, root-marks}
+use Rattle.steps.specs.Vector.{precision}
+use Rattle.steps.specs.Root.{rootStep}
+use Rattle.processing_marks.proofs.Steps.{onMarks, root-marks}
+use Rattle.steps.proofs.Loop.{Iterating, initially, d-steps, m-steps, again, finally}
 use Rattle.processing_marks.proofs.vector.mark_root.Statement.{statement}
 use Rattle.processing_marks.proofs.vector.mark_root.Tie as tie
 
 abbrev Inv-loop : tie.InvT-loop
-Inv-loop ks₀ control double d m vector count dn₀ mn₀ i₀ ks dn mn i = Turning afterMarks singles (precision double) control (λ p. λ d n m. rootStep (precision double) control d m) dn₀ dn₀ mn₀ count ks₀ ks dn dn mn i
+Inv-loop ks₀ control double d m vector count dn₀ mn₀ i₀ ks dn mn i = Iterating onMarks (precision double) control (λ d n m. rootStep (precision double) control d m) dn₀ dn₀ mn₀ vector ks₀ ks dn dn mn i
 
 abbrev μ-loop : tie.MeasureT-loop
 μ-loop ks₀ control double d m vector count dn₀ mn₀ i₀ ks dn mn i = count - i
-
-new-requires : tie.Need-new-requires Inv-loop μ-loop
-new-requires c κs = search needs
-
-loop-holds : tie.Need-loop-holds Inv-loop μ-loop
-loop-holds c = begun marks-none (c .new .ensures) (omega arith) (omega arith) (omega arith)
-
-known-requires : tie.Need-known-requires Inv-loop μ-loop
-known-requires c κs = search needs
-
-mark-requires : tie.Need-mark-requires Inv-loop μ-loop
-mark-requires c κs = search needs
-
-add-i : tie.Need-add-i Inv-loop μ-loop
-add-i c = omega arith
-
-returns : tie.Need-returns Inv-loop μ-loop
-returns c = λ r k w. ended stepMarks marks-one (c .before .before .before .before .before .before .new .ensures) (c .before .before .before .before .before .loop .inv) (λ p. rw (c .before .mark .ensures, c .before .before .before .known .ensures) (sym (root-marks (c .before .before .before .before .before .loop .ks) (p .0) (p .1) (p .2) (precision (c .before .before .before .before .before .before .before .args .double)) (c .before .before .before .before .before .before .before .args .control) (c .before .before .before .before .before .loop .dn) (c .before .before .before .before .before .loop .mn)))) (c .if1 .taken) (r, k, w)
-
-step-requires : tie.Need-step-requires Inv-loop μ-loop
-step-requires c κs = may-go (c .before .before .before .before .before .before .new .ensures) (c .before .before .before .before .before .loop .inv .at .d-within)
-
-second-requires : tie.Need-second-requires Inv-loop μ-loop
-second-requires c κs = may-go (c .before .before .before .before .before .before .before .new .ensures) (c .before .before .before .before .before .before .loop .inv .at .m-within)
-
-loop-less : tie.Need-loop-less Inv-loop μ-loop
-loop-less c = omega arith
-
-loop-again : tie.Need-loop-again Inv-loop μ-loop
-loop-again c = again stepMarks marks-one (c .before .before .before .before .before .before .before .before .new .ensures) (c .before .before .before .before .before .before .before .loop .inv) (λ p. rw (c .before .before .before .mark .ensures, c .before .before .before .before .before .known .ensures) (sym (root-marks (c .before .before .before .before .before .before .before .loop .ks) (p .0) (p .1) (p .2) (precision (c .before .before .before .before .before .before .before .before .before .args .double)) (c .before .before .before .before .before .before .before .before .before .args .control) (c .before .before .before .before .before .before .before .loop .dn) (c .before .before .before .before .before .before .before .loop .mn)))) (omega arith) (c .before .step .ensures) (c .before .step .ensures) (c .second .ensures)
 
 pub mark-root-spec : {M : Type 1} → statement M
 mark-root-spec =
@@ -54,13 +22,13 @@ mark-root-spec =
     (tie.spec
     Inv-loop
     μ-loop
-    new-requires
-    loop-holds
-    known-requires
-    mark-requires
-    add-i
-    returns
-    step-requires
-    second-requires
-    loop-less
-    loop-again)
+    (λ c κs. search needs)
+    (λ c. initially (c .new .ensures) (omega arith) (omega arith) (omega arith))
+    (λ c κs. search needs)
+    (λ c κs. search needs)
+    (λ c. omega arith)
+    (λ c. finally (c .before .before .before .before .before .loop .inv) (λ r k w. let a = c .before .before .before .before .before .before .before .args in let l = c .before .before .before .before .before .loop in rw (c .before .mark .ensures, c .before .before .before .known .ensures) (sym (root-marks (l .ks) r k w (precision (a .double)) (a .control) (l .dn) (l .mn)))) (c .if1 .taken))
+    (λ c κs. d-steps (c .before .before .before .before .before .loop .inv))
+    (λ c κs. m-steps (c .before .before .before .before .before .before .loop .inv))
+    (λ c. omega arith)
+    (λ c. again (c .before .before .before .before .before .before .before .loop .inv) (λ r k w. let a = c .before .before .before .before .before .before .before .before .before .args in let l = c .before .before .before .before .before .before .before .loop in rw (c .before .before .before .mark .ensures, c .before .before .before .before .before .known .ensures) (sym (root-marks (l .ks) r k w (precision (a .double)) (a .control) (l .dn) (l .mn)))) (omega arith) (c .before .step .ensures) (c .before .step .ensures) (c .second .ensures)))

@@ -1,0 +1,13 @@
+-- `conversions::integer::from_integer_double` meets its contract.
+use borrow.Author.Needs.{needs}
+use Rattle.conversions.proofs.integer.from_integer_double.Statement.{statement}
+use Rattle.conversions.proofs.integer.from_integer_double.Tie as tie
+
+pub from-integer-double-spec : {M : Type 1} → statement M
+from-integer-double-spec =
+    tie.close
+    (tie.spec
+    (λ c κs. search needs)
+    (λ c κs. search needs)
+    (λ c κs. search needs)
+    (λ c q v. rw (c .set-double .ensures, c .before .before .from-integer64 .ensures, c .before .before .before .get-single .ensures)))

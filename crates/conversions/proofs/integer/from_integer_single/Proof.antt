@@ -1,0 +1,13 @@
+-- `conversions::integer::from_integer_single` meets its contract.
+use borrow.Author.Needs.{needs}
+use Rattle.conversions.proofs.integer.from_integer_single.Statement.{statement}
+use Rattle.conversions.proofs.integer.from_integer_single.Tie as tie
+
+pub from-integer-single-spec : {M : Type 1} → statement M
+from-integer-single-spec =
+    tie.close
+    (tie.spec
+    (λ c κs. search needs)
+    (λ c κs. search needs)
+    (λ c κs. search needs)
+    (λ c q v. rw (c .set-single .ensures, c .before .before .from-integer32 .ensures, c .before .before .before .get-single .ensures)))

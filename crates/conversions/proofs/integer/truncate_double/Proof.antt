@@ -1,0 +1,13 @@
+-- `conversions::integer::truncate_double` meets its contract.
+use borrow.Author.Needs.{needs}
+use Rattle.conversions.proofs.integer.truncate_double.Statement.{statement}
+use Rattle.conversions.proofs.integer.truncate_double.Tie as tie
+
+pub truncate-double-spec : {M : Type 1} → statement M
+truncate-double-spec =
+    tie.close
+    (tie.spec
+    (λ c κs. search needs)
+    (λ c κs. search needs)
+    (λ c κs. search needs)
+    (λ c q v. rw (c .set-single .ensures, c .before .before .to-integer64 .ensures, c .before .before .before .get-double .ensures)))

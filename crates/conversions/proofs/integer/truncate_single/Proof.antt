@@ -1,0 +1,13 @@
+-- `conversions::integer::truncate_single` meets its contract.
+use borrow.Author.Needs.{needs}
+use Rattle.conversions.proofs.integer.truncate_single.Statement.{statement}
+use Rattle.conversions.proofs.integer.truncate_single.Tie as tie
+
+pub truncate-single-spec : {M : Type 1} → statement M
+truncate-single-spec =
+    tie.close
+    (tie.spec
+    (λ c κs. search needs)
+    (λ c κs. search needs)
+    (λ c κs. search needs)
+    (λ c q v. rw (c .set-single .ensures, c .before .before .to-integer32 .ensures, c .before .before .before .get-single .ensures)))

@@ -1,0 +1,16 @@
+-- One step of a conversion between single and double.
+use Prim.Native.Nat.{ℕ}
+use mathlib.Core.List.{[], _∷_}
+use lib.Ieee.{binary32, binary64}
+use Rattle.machine.specs.Place.{control, sWord}
+use Rattle.numbers.specs.Convert.{narrow, widen}
+use Rattle.meaning.specs.Step.{Step, fst, rest}
+use Rattle.steps.specs.Register.{wordsOf, valuesOf, written}
+
+-- narrowing flushes, so FPSCR 27:0 is a source
+abbrev pub widenStep : ℕ → ℕ → Step
+widenStep d m = written binary64 d (wordsOf binary32 (m ∷ [])) (λ vs. widen (fst vs))
+
+abbrev pub narrowStep : ℕ → ℕ → Step
+narrowStep d m =
+    record { target = sWord d; sources = control ∷ wordsOf binary64 (m ∷ []); value = λ vs. narrow (fst vs) (fst (valuesOf binary64 (rest vs))) } ∷ []

@@ -1,0 +1,12 @@
+-- Values that the definition is held against, each computed. Assumes nothing.
+use mathlib.Core.Path.{_≡_, refl}
+use lib.Ieee.{binary32, binary64, ofBits, toBits, odd}
+use Rattle.rounding.specs.Flush.{flush}
+use Rattle.roots.specs.Root.{isqrt, rootOf, sqrtOf, squareRoot}
+
+-- the roots of 2 and of the subnormal 3
+pub values : (squareRoot binary32 0 0x4000_0000 ≡ 0x3FB5_04F3)
+    × (squareRoot binary64 0 0x4000_0000_0000_0000 ≡ 0x3FF6_A09E_667F_3BCD)
+    × (squareRoot binary64 0 3 ≡ 0x1E6B_B67A_E858_4CAA)
+unfolding squareRoot sqrtOf rootOf isqrt flush ofBits toBits odd
+values = (refl, refl, refl)

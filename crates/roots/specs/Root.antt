@@ -1,0 +1,72 @@
+-- The square root of a format's value, rounded by whole-number squares. Assumes nothing.
+use Prim.Native.Nat.{ℕ, zero, suc, _+_, _-_, _*_, _/_, _%_, _^_, _≤_, _<_, compare}
+use mathlib.Core.Path.{_≡_}
+use mathlib.Core.Logic.{_⊎_}
+use mathlib.Core.Bool.{Bool, false, cond}
+use lib.Dec.{leb, ltb, eqb}
+use lib.Ieee.{Float, nan, inf, fin, Format, low, up, down, size, ofBits, toBits}
+use Rattle.rounding.specs.Flush.{flush}
+use Rattle.rounding.specs.Rounding.{move, settled, dropped}
+use Rattle.rounding.specs.declared.rounding.Rounding.{Rounding}
+use Rattle.rounding.specs.declared.rounding.Rounding.the-variants.{Nearest}
+
+-- the largest number whose square is at most n, for an n below 4 ^ d, a binary digit at a time
+unfoldable pub rootIn : ℕ → ℕ → ℕ
+rootIn zero n = zero
+rootIn (suc d) n = let r = 2 * rootIn d (n / 4) in cond (leb (suc r * suc r) n) (suc r) r
+
+unfoldable pub isqrt : ℕ → ℕ
+unfolding rootIn
+isqrt n = rootIn (size n) n
+
+-- the root of n / u, rounded to a whole number: it is above q and a half where n is above (q + 1/2) squared of u
+abbrev pub rootCut : Rounding → ℕ → ℕ → ℕ
+rootCut mode n u =
+    let q = isqrt (n / u) in
+    move mode false q (compare (4 * n) ((2 * q + 1) * (2 * q + 1) * u)) (eqb (q * q * u) n)
+
+-- the root of num / den, which is above 0. In the format's smallest values it is the root of n / den, of whose whole part k digits are dropped
+unfoldable pub rootOf : Rounding → Format → ℕ → ℕ → Float
+rootOf mode f num den =
+    let n = num * 2 ^ (low f + low f) in
+    let k = dropped f (isqrt (n / den)) in
+    settled mode f false (rootCut mode n (den * 2 ^ (k + k))) k
+
+-- a negative number has no root, and a zero keeps its sign
+unfoldable pub sqrtOf : Rounding → Format → Float → Float
+sqrtOf mode f nan = nan
+sqrtOf mode f (inf s) = cond s nan (inf s)
+sqrtOf mode f (fin s zero e) = fin s zero e
+sqrtOf mode f (fin s (suc m) e) = cond s nan (rootOf mode f (suc m * up e) (down e))
+
+-- rounded to nearest even, and stored as a result is
+unfoldable pub squareRoot : Format → ℕ → ℕ → ℕ
+squareRoot f control m = flush f control (toBits f (sqrtOf Nearest f (ofBits f m)))
+
+-- a root's digits and what is left, of a number n
+pub record IsRoot (n root rest : ℕ) : Type 0 where
+  pub sum : root * root + rest ≡ n
+  pub least : rest ≤ 2 * root
+
+-- the root of n rounded, of so many digits, and whether n is its square
+pub record IsRooted (mode : Rounding) (n steps kept : ℕ) (exact : Bool) : Type 0 where
+  pub kept-is : kept ≡ rootCut mode n 1
+  pub below : kept ≤ 2 ^ steps
+  pub exact-is : exact ≡ eqb (isqrt n * isqrt n) n
+
+-- 2 ^ 52 and the 52 digits of y, and twice that where the bit above them, the lowest of a normal value's exponent, is 0
+abbrev pub radicand : ℕ → ℕ
+radicand y = cond (ltb y (2 ^ 52)) (y * 2 + 2 ^ 53) y
+
+-- the root of n to the nearest whole number, or 0 where it was not found
+pub record IsNearestRoot (n most r : ℕ) : Type 0 where
+  pub is : 0 < r → r ≡ rootCut Nearest n 1
+  pub below : r ≤ most
+
+-- ---- what a reader believes at sight: r is no further than a half from the root of n / u, and even where it is just a half away
+abbrev pub NearRoot : ℕ → ℕ → ℕ → Type 0
+NearRoot n u r =
+    ((2 * r - 1) * (2 * r - 1) * u ≤ 4 * n)
+    × (4 * n ≤ (2 * r + 1) * (2 * r + 1) * u)
+    × ((4 * n ≡ (2 * r + 1) * (2 * r + 1) * u) → r % 2 ≡ 0)
+    × ((4 * n ≡ (2 * r - 1) * (2 * r - 1) * u) → (r ≡ 0) ⊎ (r % 2 ≡ 0))

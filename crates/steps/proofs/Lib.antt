@@ -1,0 +1,5 @@
+-- Laws of the crate's proofs, over the precision.
+
+pub mod Loop
+mod Steps
+mod Banks

@@ -1,0 +1,44 @@
+// Compares: they set FPSCR 31:28 alone.
+ghost use mathlib.Core.Path.{_≡_};
+ghost use Prim.Native.Nat.{_+_, _*_, _%_, _^_, _<_};
+ghost use lib.Ieee.{binary32, binary64};
+ghost use Rattle.steps.specs.Register.{SteppedWith};
+ghost use Rattle.steps.specs.Compare.{compareStep, compareZeroStep};
+use machine::registers::Double;
+use machine::registers::Single;
+use machine::registers::get_double;
+use machine::registers::get_single;
+use numbers::compare::compare32;
+use numbers::compare::compare64;
+
+// FPSCR with other flags.
+fn with_flags(fpscr: u32, flags: u32) -> u32
+    requires { ⌜ flags < 16 ⌝ }
+    ensures { λ r. ⌜ r ≡ flags * 2 ^ 28 + fpscr % 2 ^ 28 ⌝ }
+{
+    flags * 0x1000_0000 + fpscr % 0x1000_0000
+}
+
+pub fn compare_single(s: &[u32; 32], fpscr: u32, d: Single, m: Single) -> u32
+    ensures { λ r. ⌜ SteppedWith (compareStep binary32 (d .0) (m .0)) fpscr (now (s .entry)) r (now (s .entry)) ⌝ }
+{
+    with_flags(fpscr, compare32(get_single(s, d), get_single(s, m)))
+}
+
+pub fn compare_double(s: &[u32; 32], fpscr: u32, d: Double, m: Double) -> u32
+    ensures { λ r. ⌜ SteppedWith (compareStep binary64 (d .0) (m .0)) fpscr (now (s .entry)) r (now (s .entry)) ⌝ }
+{
+    with_flags(fpscr, compare64(get_double(s, d), get_double(s, m)))
+}
+
+pub fn compare_single_zero(s: &[u32; 32], fpscr: u32, d: Single) -> u32
+    ensures { λ r. ⌜ SteppedWith (compareZeroStep binary32 (d .0)) fpscr (now (s .entry)) r (now (s .entry)) ⌝ }
+{
+    with_flags(fpscr, compare32(get_single(s, d), 0))
+}
+
+pub fn compare_double_zero(s: &[u32; 32], fpscr: u32, d: Double) -> u32
+    ensures { λ r. ⌜ SteppedWith (compareZeroStep binary64 (d .0)) fpscr (now (s .entry)) r (now (s .entry)) ⌝ }
+{
+    with_flags(fpscr, compare64(get_double(s, d), 0))
+}
