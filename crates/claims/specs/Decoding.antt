@@ -53,6 +53,6 @@ pub record Decoding : Type 0 where
   pub widening-without-bit-7 : (m : Machine) (v : List ℕ)
       → reply (dataTree (m .thumb) 0xEEB7_0A40) (state m v)
       ≡ record {
-        says = report (Stop.undefined ((getD (m .r) 15 0 + (2 ^ 32 - behind (m .thumb))) % 2 ^ 32) 0xEEB7_0A40);
+        report = report (Stop.undefined ((getD (m .r) 15 0 + (2 ^ 32 - behind (m .thumb))) % 2 ^ 32) 0xEEB7_0A40);
         leaves = state m v;
       }

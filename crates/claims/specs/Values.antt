@@ -17,7 +17,7 @@ machineWith c s r0 = withR (withFpscr (withS newMachine (take 32 (s ++ replicate
 
 -- nothing to report, and this machine and window left
 abbrev pub leaving : Machine → List ℕ → Reply
-leaving m v = record { says = report finished; leaves = state m v }
+leaving m v = record { report = report finished; leaves = state m v }
 
 -- a data-processing word makes these FPSCR and singles of those, and changes nothing else
 abbrev pub Makes : ℕ → ℕ → List ℕ → ℕ → List ℕ → Type 0

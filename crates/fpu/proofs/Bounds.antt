@@ -190,18 +190,18 @@ module _ (M : ℕ → Tree) (near : (w : ℕ) → Near (M w)) where
 
 -- what fits in a word
 abbrev pub Fits : Report → ℕ → Type 0
-Fits says count = (count < 2 ^ 32) × (says .place < 2 ^ 32)
+Fits x count = (count < 2 ^ 32) × (x .place < 2 ^ 32)
 
-run-fits : (base : ℕ) (list : List ℕ) (st : State) → Fits (Run.runReply base list st .says) (Run.runReply base list st .count)
+run-fits : (base : ℕ) (list : List ℕ) (st : State) → Fits (Run.runReply base list st .report) (Run.runReply base list st .count)
 run-fits base list st = by (eqb n 0) refl
   where
     n : ℕ
     n = runLimit (length list) base (length (st .window)) (st .machine .thumb)
 
     y : Bool → Run.Reply
-    y b = cond b (Run.reply (R.run (meaning base) list 0 st)) (record { says = report (refused n); count = 0; leaves = st })
+    y b = cond b (Run.reply (R.run (meaning base) list 0 st)) (record { report = report (refused n); count = 0; leaves = st })
 
-    by : (b : Bool) → eqb n 0 ≡ b → Fits (y b .says) (y b .count)
+    by : (b : Bool) → eqb n 0 ≡ b → Fits (y b .report) (y b .count)
     by true e =
         let b = run-bounded (meaning base) (near-meaning base) list 0 st in
         let l = list-within (length list) base (length (st .window)) (st .machine .thumb) (eqb-true n 0 e) in
@@ -209,9 +209,9 @@ run-fits base list st = by (eqb n 0) refl
     by false e = (omega arith, omega arith)
 
 pub ran-fits : (base : ℕ) (list : List ℕ) (st : State) (x : Ran) (w : List ℕ) → Run.answered x w ≡ Run.runReply base list st → Fits (report (Run.stopOf (x .stop))) (x .count)
-ran-fits base list st x w e = subst (λ (y : Run.Reply). Fits (y .says) (y .count)) (sym e) (run-fits base list st)
+ran-fits base list st x w e = subst (λ (y : Run.Reply). Fits (y .report) (y .count)) (sym e) (run-fits base list st)
 
-watch-fits : (base : ℕ) (list : List ℕ) (st : State) (μ : Map) → Fits (watchReply base list st μ .says) (watchReply base list st μ .count)
+watch-fits : (base : ℕ) (list : List ℕ) (st : State) (μ : Map) → Fits (watchReply base list st μ .report) (watchReply base list st μ .count)
 unfolding watchReply
 watch-fits base list st μ = by (eqb n 0) refl
   where
@@ -219,9 +219,9 @@ watch-fits base list st μ = by (eqb n 0) refl
     n = limitOf base list st μ
 
     y : Bool → Watch.Reply
-    y b = cond b (Watch.reply (R.watch (meaning base) list 0 st μ)) (record { says = report (refused n); count = 0; leaves = st; map = μ })
+    y b = cond b (Watch.reply (R.watch (meaning base) list 0 st μ)) (record { report = report (refused n); count = 0; leaves = st; map = μ })
 
-    by : (b : Bool) → eqb n 0 ≡ b → Fits (y b .says) (y b .count)
+    by : (b : Bool) → eqb n 0 ≡ b → Fits (y b .report) (y b .count)
     by true e =
         let b = watch-bounded (meaning base) (near-meaning base) list 0 st μ in
         let l = list-within (length list) base (length (st .window)) (st .machine .thumb) (run-within (length list) base (length (st .window)) (st .machine .thumb) (μ .words) (eqb-true n 0 e)) in
@@ -230,4 +230,4 @@ watch-fits base list st μ = by (eqb n 0) refl
 
 pub watched-fits : (base : ℕ) (list : List ℕ) (st : State) (μ : Map) (x : Watched) (w v : List ℕ) → Watch.answered x w v ≡ watchReply base list st μ
     → Fits (report (Run.stopOf (x .stop))) (x .count)
-watched-fits base list st μ x w v e = subst (λ (y : Watch.Reply). Fits (y .says) (y .count)) (sym e) (watch-fits base list st μ)
+watched-fits base list st μ x w v e = subst (λ (y : Watch.Reply). Fits (y .report) (y .count)) (sym e) (watch-fits base list st μ)

@@ -27,7 +27,7 @@ answerOf count p = count ∷ p .place ∷ p .address ∷ p .word ∷ []
 
 -- a reply, after so many words of a list; a call's count is 0
 abbrev pub reported : ℕ → Reply → Outcome
-reported count y = outcome (y .says .kind) (encode (y .leaves .machine)) (y .leaves .window) (answerOf count (y .says))
+reported count y = outcome (y .report .kind) (encode (y .leaves .machine)) (y .leaves .window) (answerOf count (y .report))
 
 -- the result where an argument is invalid; it is tested first
 abbrev pub invalidArgument : ℕ
@@ -47,7 +47,7 @@ called y l w thumb a = cond (validCall l thumb (length a)) (reported 0 (y (decod
 
 -- what a plain run leaves whose reply is y, with its count
 abbrev pub reportedRun : Run.Reply → Outcome
-reportedRun y = reported (y .count) (record { says = y .says; leaves = y .leaves })
+reportedRun y = reported (y .count) (record { report = y .report; leaves = y .leaves })
 
 abbrev pub ran : (State → Run.Reply) → List ℕ → List ℕ → ℕ → List ℕ → Outcome
 ran y l w thumb a = cond (validCall l thumb (length a)) (reportedRun (y (decodedState l w thumb))) (outcome invalidArgument l w a)

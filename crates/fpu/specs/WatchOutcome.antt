@@ -26,7 +26,7 @@ watchOutcome r l m w v a = record { result = r; words = l; marks = m; window = w
 -- a reply in the buffers
 abbrev pub reportedWatch : Reply → WatchOutcome
 reportedWatch y =
-    watchOutcome (y .says .kind) (encode (y .leaves .machine)) (encodeMarks (y .map .marks)) (y .leaves .window) (y .map .words) (answerOf (y .count) (y .says))
+    watchOutcome (y .report .kind) (encode (y .leaves .machine)) (encodeMarks (y .map .marks)) (y .leaves .window) (y .map .words) (answerOf (y .count) (y .report))
 
 -- whether a state, marks, a thumb and an answer of so many words are valid
 unfoldable pub validWatch : List ℕ → List ℕ → ℕ → ℕ → Bool

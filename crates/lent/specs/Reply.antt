@@ -5,4 +5,4 @@ use Rattle.vfp.specs.declared.Exit.{Exit}
 
 -- the exit's report, with the machine behind the reference and the window as the call leaves them
 abbrev pub lentReply : Exit → State → Reply
-lentReply x st = record { says = exitReport x; leaves = st }
+lentReply x st = record { report = exitReport x; leaves = st }

@@ -30,5 +30,5 @@ module _ (base : ℕ) (list : List ℕ) (st : State) (n : ℕ) (l : n ≡ runLim
   pub allowed : (x : Reply) → n ≡ 0 → x ≡ reply (run (meaning base) list 0 st) → x ≡ runReply base list st
   allowed x z e = rw (← l, z) e
 
-  pub turned : (n ≡ 0 → ⊥) → record { says = report (S.refused n); count = 0; leaves = st } ≡ runReply base list st
+  pub turned : (n ≡ 0 → ⊥) → record { report = report (S.refused n); count = 0; leaves = st } ≡ runReply base list st
   turned z = rw (← l, ne-eqb _ _ z)

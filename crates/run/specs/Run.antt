@@ -33,20 +33,20 @@ nextOf (Halt s) = T.halt (stopOf s)
 
 -- a report and a count, with the machine and the window that are left
 pub record Reply : Type 0 where
-  pub says : Report
+  pub report : Report
   pub count : ℕ
   pub leaves : State
 
 -- the code's answer, with the window as the run leaves it
 abbrev pub answered : Ran → List ℕ → Reply
-answered a window = record { says = report (stopOf (a .stop)); count = a .count; leaves = state (a .machine) window }
+answered a window = record { report = report (stopOf (a .stop)); count = a .count; leaves = state (a .machine) window }
 
 -- what a run that has ended gives
 abbrev pub reply : Ended → Reply
-reply e = record { says = report (e .stop); count = e .count; leaves = e .st }
+reply e = record { report = report (e .stop); count = e .count; leaves = e .st }
 
 -- the run of a list: refused outside the limits, with zero words run and everything as it came
 abbrev pub runReply : ℕ → List ℕ → State → Reply
 runReply base list st =
     let n = runLimit (length list) base (length (st .window)) (st .machine .thumb) in
-    cond (eqb n 0) (reply (run (meaning base) list 0 st)) (record { says = report (S.refused n); count = 0; leaves = st })
+    cond (eqb n 0) (reply (run (meaning base) list 0 st)) (record { report = report (S.refused n); count = 0; leaves = st })

@@ -20,29 +20,29 @@ use Rattle.limits.specs.Limit.{windowLimit}
 use Rattle.vfp.specs.Call.{reply, loadStoreReply}
 
 -- the reply of a word whose plain evaluation is o
-pub replied : (o : Out) (t : Tree) (st : State) → o ≡ plain t st → record { says = report (exitOf (o .next)); leaves = o .st } ≡ reply t st
-replied o t st e = ap (λ (x : Out). record { says = report (exitOf (x .next)); leaves = x .st }) e
+pub replied : (o : Out) (t : Tree) (st : State) → o ≡ plain t st → record { report = report (exitOf (o .next)); leaves = o .st } ≡ reply t st
+replied o t st e = ap (λ (x : Out). record { report = report (exitOf (x .next)); leaves = x .st }) e
 
 module _ (m : Machine) (w : ℕ) (s′ : List ℕ) (r : Processed) (h : Handled (λ thumb. dataTree thumb w) w (m .s) (m .fpscr) s′ r) (v : List ℕ) where
-  pub data-done : (x : ℕ) → r ≡ Done x → record { says = report finished; leaves = state (withS (withFpscr m x) s′) v } ≡ reply (dataTree (m .thumb) w) (state m v)
+  pub data-done : (x : ℕ) → r ≡ Done x → record { report = report finished; leaves = state (withS (withFpscr m x) s′) v } ≡ reply (dataTree (m .thumb) w) (state m v)
   data-done x e =
       replied (out (state (withS (withFpscr m x) s′) v) on) (dataTree (m .thumb) w) (state m v)
       (subst (λ (y : Processed). Handled (λ thumb. dataTree thumb w) w (m .s) (m .fpscr) s′ y) e h (m .thumb) m v)
 
   pub data-undefined : (pc : ℕ) → r ≡ Undefined → pc ≡ (getD (m .r) 15 0 + (2 ^ 32 - behind (m .thumb))) % 2 ^ 32
-      → record { says = report (undefined pc w); leaves = state m v } ≡ reply (dataTree (m .thumb) w) (state m v)
+      → record { report = report (undefined pc w); leaves = state m v } ≡ reply (dataTree (m .thumb) w) (state m v)
   data-undefined pc e p =
       rw (p, subst (λ (y : Processed). Handled (λ thumb. dataTree thumb w) w (m .s) (m .fpscr) s′ y) e h .1 (m .thumb))
       (replied _ (undefinedTree (m .thumb) w) (state m v) (plain-ask (core 15) _ (state m v) _ (plain-stop _ (state m v))))
 
 -- a transfer, by whether it branched
-pub transferred : (b : Bool) (t : Tree) (st x : State) → out x (afterTransfer b) ≡ plain t st → record { says = report (exitOf (afterTransfer b)); leaves = x } ≡ reply t st
+pub transferred : (b : Bool) (t : Tree) (st x : State) → out x (afterTransfer b) ≡ plain t st → record { report = report (exitOf (afterTransfer b)); leaves = x } ≡ reply t st
 transferred b t st x e = replied (out x (afterTransfer b)) t st e
 
 -- loads and stores, within the limits and outside
 module _ (base w : ℕ) (st : State) (n : ℕ) (l : n ≡ windowLimit base (length (st .window))) where
-  pub allowed : (x : State) → n ≡ 0 → out x on ≡ plain (loadStoreTree base w) st → record { says = report finished; leaves = x } ≡ loadStoreReply base w st
+  pub allowed : (x : State) → n ≡ 0 → out x on ≡ plain (loadStoreTree base w) st → record { report = report finished; leaves = x } ≡ loadStoreReply base w st
   allowed x z e = rw (← l, z) (replied (out x on) (loadStoreTree base w) st e)
 
-  pub turned : (n ≡ 0 → ⊥) → record { says = report (refused n); leaves = st } ≡ loadStoreReply base w st
+  pub turned : (n ≡ 0 → ⊥) → record { report = report (refused n); leaves = st } ≡ loadStoreReply base w st
   turned z = rw (← l, ne-eqb _ _ z)

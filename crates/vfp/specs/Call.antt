@@ -22,19 +22,19 @@ exitReport (E.Refused n) = report (refused n)
 
 -- a report, with the machine and the window that are left
 pub record Reply : Type 0 where
-  pub says : Report
+  pub report : Report
   pub leaves : State
 
 -- the code's answer, with the window as the call leaves it
 abbrev pub answered : Answer → List ℕ → Reply
-answered a window = record { says = exitReport (a .exit); leaves = state (a .machine) window }
+answered a window = record { report = exitReport (a .exit); leaves = state (a .machine) window }
 
 -- what a word of the meaning t should give
 abbrev pub reply : Tree → State → Reply
-reply t st = let o = plain t st in record { says = report (exitOf (o .next)); leaves = o .st }
+reply t st = let o = plain t st in record { report = report (exitOf (o .next)); leaves = o .st }
 
 -- loads and stores: refused outside the limits, with everything as it came
 abbrev pub loadStoreReply : ℕ → ℕ → State → Reply
 loadStoreReply base w st =
     let n = windowLimit base (length (st .window)) in
-    cond (eqb n 0) (reply (loadStoreTree base w) st) (record { says = report (refused n); leaves = st })
+    cond (eqb n 0) (reply (loadStoreTree base w) st) (record { report = report (refused n); leaves = st })

@@ -83,7 +83,7 @@ unfolding watchReply
 within base list st μ e = rw e
 
 refuses : (base : ℕ) (list : List ℕ) (st : State) (μ : Map) (k : ℕ) → k ≡ limitOf base list st μ → (k ≡ 0 → ⊥)
-    → record { says = report (refused k); count = 0; leaves = st; map = μ } ≡ watchReply base list st μ
+    → record { report = report (refused k); count = 0; leaves = st; map = μ } ≡ watchReply base list st μ
 unfolding watchReply
 refuses base list st μ k p q = rw (← p, ne-eqb _ _ q)
 
@@ -112,7 +112,7 @@ module _ (base : ℕ) (list : List ℕ) (st : State) (μ : Map) (e : limitOf bas
       → Alike (reply (R.watch (meaning base) list 0 st μ)) (reply (R.watch (meaning base) list 0 b μ))
   alike-within b m za zb e′ ag =
       let x = two-runs (meaning base) list 0 μ st b (record { fa = fit m za; fb = record { s = m .s ∙ sym (zb .s); r = m .r ∙ sym (zb .r); words = marks-within (length list) base (length (b .window)) (b .machine .thumb) (μ .words) e′ }; ag = by-place μ st b m ag }) in
-      record { says = ap report (x .stop); count = x .count; map = x .map; agree = λ n h. x .agree (place n) h }
+      record { report = ap report (x .stop); count = x .count; map = x .map; agree = λ n h. x .agree (place n) h }
 
 -- ---- the demand, and the promise of the public call
 
@@ -136,7 +136,7 @@ module _ (base : ℕ) (list : List ℕ) (st : State) (μ : Map) (m : Mapped μ) 
       }
 
   -- a refusal
-  pub refusing : (k : ℕ) → k ≡ limitOf base list st μ → (k ≡ 0 → ⊥) → Promise base list st μ (record { says = report (refused k); count = 0; leaves = st; map = μ })
+  pub refusing : (k : ℕ) → k ≡ limitOf base list st μ → (k ≡ 0 → ⊥) → Promise base list st μ (record { report = report (refused k); count = 0; leaves = st; map = μ })
   refusing k p q =
       record {
         answer = refuses base list st μ k p q;

@@ -17,7 +17,7 @@ Agree μ a b = (n : ℕ) → known μ (place n) ≡ true → get a (place n) ≡
 
 -- equal count, kind of stop and report, equal last maps, and agreement in every place that they call known
 pub record Alike (x y : Reply) : Type 0 where
-  pub says : x .says ≡ y .says
+  pub report : x .report ≡ y .report
   pub count : x .count ≡ y .count
   pub map : x .map ≡ y .map
   pub agree : Agree (x .map) (x .leaves) (y .leaves)

@@ -21,7 +21,7 @@ marksOf e = record { flags = e .flags; control = e .control; exc = e .exc; nzcv 
 
 -- a report and a count, with the machine, the window and the map that are left
 pub record Reply : Type 0 where
-  pub says : Report
+  pub report : Report
   pub count : ℕ
   pub leaves : State
   pub map : Map
@@ -29,11 +29,11 @@ pub record Reply : Type 0 where
 -- the code's answer, with the window and its marks as the run leaves them
 abbrev pub answered : Watched → List ℕ → List ℕ → Reply
 answered a window marks =
-    record { says = report (stopOf (a .stop)); count = a .count; leaves = state (a .machine) window; map = mapOf (a .marks) marks }
+    record { report = report (stopOf (a .stop)); count = a .count; leaves = state (a .machine) window; map = mapOf (a .marks) marks }
 
 -- what a watched run that has ended gives
 abbrev pub reply : R.Watched → Reply
-reply e = record { says = report (e .stop); count = e .count; leaves = e .st; map = e .map }
+reply e = record { report = report (e .stop); count = e .count; leaves = e .st; map = e .map }
 
 -- the first refusal that applies to a watched run, or 0: then it is within the limits
 abbrev pub limitOf : ℕ → List ℕ → State → Map → ℕ
@@ -43,4 +43,4 @@ limitOf base list st μ = watchLimit (length list) base (length (st .window)) (s
 unfoldable pub watchReply : ℕ → List ℕ → State → Map → Reply
 watchReply base list st μ =
     let n = limitOf base list st μ in
-    cond (eqb n 0) (reply (R.watch (meaning base) list 0 st μ)) (record { says = report (refused n); count = 0; leaves = st; map = μ })
+    cond (eqb n 0) (reply (R.watch (meaning base) list 0 st μ)) (record { report = report (refused n); count = 0; leaves = st; map = μ })

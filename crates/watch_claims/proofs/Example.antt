@@ -35,7 +35,7 @@ abbrev pub answer : Reply
 answer = watchReply 0 words (state newMachine []) (allBut (0 ∷ []))
 
 pub record Claim : Type 0 where
-  pub stops : answer .says ≡ report (hangs 51)
+  pub stops : answer .report ≡ report (hangs 51)
   pub counts : answer .count ≡ 3
   pub marks : answer .map ≡ allBut (0 ∷ 48 ∷ 51 ∷ [])
 
