@@ -1,0 +1,57 @@
+-- `test_limits::watched::window_marks_as_given` meets its contract.
+use Prim.Native.Nat.{_≤_, _-_}
+use lib.ListN.{length}
+use borrow.Author.Needs.{needs}
+use Rattle.test_limits.proofs.watched.window_marks_as_given.Statement.{statement}
+use Rattle.test_limits.proofs.watched.window_marks_as_given.Tie as tie
+use Rattle.test_limits.proofs.watched.window_marks_as_given.Reads as reads
+use Rattle.test_limits.proofs.watched.window_marks_as_given.Lts as lts
+
+abbrev Inv-loop : tie.InvT-loop
+Inv-loop marks at mark i₀ i = i ≤ length marks
+
+abbrev μ-loop : tie.MeasureT-loop
+μ-loop marks at mark i₀ i = length marks - i
+
+loop-holds : tie.Need-loop-holds Inv-loop μ-loop
+loop-holds c = search needs
+
+shared-slice-read-if2 : tie.Need-shared-slice-read-if2 Inv-loop μ-loop
+shared-slice-read-if2 c = search needs
+
+returns : tie.Need-returns Inv-loop μ-loop
+returns c = search needs
+
+shared-slice-read-if3 : tie.Need-shared-slice-read-if3 Inv-loop μ-loop
+shared-slice-read-if3 c = search needs
+
+returns-2 : tie.Need-returns-2 Inv-loop μ-loop
+returns-2 c = search needs
+
+add-i : tie.Need-add-i Inv-loop μ-loop
+add-i c = search needs
+
+loop-less : tie.Need-loop-less Inv-loop μ-loop
+loop-less c = search needs
+
+loop-again : tie.Need-loop-again Inv-loop μ-loop
+loop-again c = search needs
+
+returns-3 : tie.Need-returns-3 Inv-loop μ-loop
+returns-3 c = search needs
+
+pub window-marks-as-given-spec : {M : Type 1} → statement M
+window-marks-as-given-spec =
+    tie.close
+    (tie.spec
+    Inv-loop
+    μ-loop
+    loop-holds
+    shared-slice-read-if2
+    returns
+    shared-slice-read-if3
+    returns-2
+    add-i
+    loop-less
+    loop-again
+    returns-3)
