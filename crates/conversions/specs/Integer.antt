@@ -8,7 +8,7 @@ use Rattle.rounding.specs.declared.rounding.Rounding.the-variants.{Zero}
 use Rattle.numbers.specs.Integer.{fromInteger, toInteger}
 use Rattle.rounding.specs.Rounding.{roundingOf}
 use Rattle.meaning.specs.Step.{Step, fst, rest}
-use Rattle.steps.specs.Register.{wordsOf, valuesOf, written}
+use Rattle.short_vectors.specs.Register.{wordsOf, valuesOf, written}
 
 -- an integer stands in a single
 abbrev pub fromStep : Format → Bool → ℕ → ℕ → Step

@@ -5,7 +5,7 @@ use lib.Ieee.{binary32, binary64}
 use Rattle.machine.specs.Place.{control, sWord}
 use Rattle.numbers.specs.Convert.{narrow, widen}
 use Rattle.meaning.specs.Step.{Step, fst, rest}
-use Rattle.steps.specs.Register.{wordsOf, valuesOf, written}
+use Rattle.short_vectors.specs.Register.{wordsOf, valuesOf, written}
 
 -- narrowing flushes, so FPSCR 27:0 is a source
 abbrev pub widenStep : ℕ → ℕ → Step

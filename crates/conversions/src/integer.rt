@@ -1,6 +1,6 @@
 // From and to integers, which stand in singles.
 ghost use lib.Ieee.{binary32, binary64};
-ghost use Rattle.steps.specs.Register.{Stepped, SteppedWith};
+ghost use Rattle.short_vectors.specs.Register.{Stepped, SteppedWith};
 ghost use Rattle.conversions.specs.Integer.{fromStep, truncateStep, roundStep};
 use machine::registers::Double;
 use machine::registers::Single;

@@ -1,5 +1,5 @@
 // Between single and double.
-ghost use Rattle.steps.specs.Register.{Stepped, SteppedWith};
+ghost use Rattle.short_vectors.specs.Register.{Stepped, SteppedWith};
 ghost use Rattle.conversions.specs.Width.{widenStep, narrowStep};
 use machine::registers::Double;
 use machine::registers::Single;

@@ -8,8 +8,8 @@ use Rattle.bits.specs.Field.{field, bitOf}
 use Rattle.machine.specs.Machine.{withFpscr}
 use Rattle.meaning.specs.Step.{Step}
 use Rattle.steps.specs.declared.sign.SignOperation.the-variants.{Copy, Absolute, Negate}
-use Rattle.steps.specs.Vector.{iterationsOf, monadicStep}
-use Rattle.steps.specs.Register.{Stepped, SteppedWith, Iterated}
+use Rattle.short_vectors.specs.Vector.{iterationsOf, monadicStep}
+use Rattle.short_vectors.specs.Register.{Stepped, SteppedWith, Iterated}
 use Rattle.steps.specs.Sign.{signStep}
 use Rattle.steps.specs.Root.{rootStep}
 use Rattle.steps.specs.Compare.{compareStep, compareZeroStep}

@@ -18,11 +18,11 @@ use Rattle.meaning.specs.Tree.{Tree, go}
 use Rattle.meaning.proofs.Laws.{plain-ask, plain-family, plain-once}
 use Rattle.processing.specs.declared.Processed.{Processed}
 use Rattle.processing.specs.declared.Processed.the-variants.{Done, Undefined}
-use Rattle.steps.specs.Vector.{iterationsOf, monadicStep}
-use Rattle.steps.specs.Register.{SteppedWith, Iterated}
+use Rattle.short_vectors.specs.Vector.{iterationsOf, monadicStep}
+use Rattle.short_vectors.specs.Register.{SteppedWith, Iterated}
 use Rattle.processing.specs.Fields.{regD, regN, regM, kindOf, kinds, arithmeticAt}
 use Rattle.processing.specs.Operation.{undefined, extensionBy, arithmetics, operationBy, operationOf}
-use Rattle.steps.specs.Arithmetic.{dyadicStep}
+use Rattle.arithmetic_steps.specs.Arithmetic.{dyadicStep}
 use Rattle.steps.specs.Compare.{compareStep, compareZeroStep}
 use Rattle.conversions.specs.Integer.{fromStep}
 use Rattle.processing.specs.Data.{stepping, dyadic, monadic, undefinedTree, operationTree, dataTree, extensionTree, wordTree, dyadicTree, integerTree, Handled}

@@ -15,8 +15,8 @@ use Rattle.meaning.specs.Step.{Step, once}
 use Rattle.meaning.specs.Stop as Stop
 use Rattle.meaning.specs.Tree.{Tree, stop, go, ask, out, on, plain}
 use Rattle.steps.specs.declared.sign.SignOperation.the-variants.{Copy, Absolute, Negate}
-use Rattle.steps.specs.Vector.{iterationsOf, monadicStep}
-use Rattle.steps.specs.Arithmetic.{dyadicStep}
+use Rattle.short_vectors.specs.Vector.{iterationsOf, monadicStep}
+use Rattle.arithmetic_steps.specs.Arithmetic.{dyadicStep}
 use Rattle.steps.specs.Sign.{signStep}
 use Rattle.steps.specs.Root.{rootStep}
 use Rattle.steps.specs.Compare.{compareStep, compareZeroStep}

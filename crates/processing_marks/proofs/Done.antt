@@ -19,10 +19,10 @@ use Rattle.bits.specs.Field.{field, bitOf}
 use Rattle.steps.specs.declared.sign.SignOperation.{SignOperation}
 use Rattle.steps.specs.declared.sign.SignOperation.the-variants.{Copy, Absolute, Negate}
 use Rattle.processing.proofs.Done.{extension-is}
-use Rattle.steps.specs.Vector.{iterationsOf, monadicStep}
+use Rattle.short_vectors.specs.Vector.{iterationsOf, monadicStep}
 use Rattle.processing.specs.Operation.{extensionBy}
 use Rattle.steps.specs.Sign.{signStep}
-use Rattle.steps.specs.Arithmetic.{dyadicStep}
+use Rattle.arithmetic_steps.specs.Arithmetic.{dyadicStep}
 use Rattle.processing.specs.Fields.{regD, regN, regM}
 use Rattle.processing.specs.Data.{stepping, dyadic, monadic, undefinedTree, operationTree, extensionTree}
 use Rattle.processing_marks.specs.Marked.{Marked, MarksIterated}

@@ -13,14 +13,14 @@ use Rattle.meaning.specs.Step.{Step, allKnown, stepMarks}
 use Rattle.meaning.proofs.Laws.{marks-none, marks-one}
 use Rattle.numbers.specs.declared.arithmetic.Arithmetic.{Arithmetic}
 use Rattle.steps.specs.declared.sign.SignOperation.{SignOperation}
-use Rattle.steps.specs.Register.{wordsOf, written}
+use Rattle.short_vectors.specs.Register.{wordsOf, written}
 use Rattle.steps.specs.Sign.{signStep}
-use Rattle.steps.specs.Arithmetic.{operands, arithmeticStep}
+use Rattle.arithmetic_steps.specs.Arithmetic.{operands, arithmeticStep}
 use Rattle.steps.specs.Root.{rootStep}
 use Rattle.steps.specs.Compare.{compareStep, compareZeroStep}
 use Rattle.conversions.specs.Width.{widenStep, narrowStep}
 use Rattle.conversions.specs.Integer.{fromStep, truncateStep, roundStep}
-use Rattle.steps.proofs.Loop.{Repeats}
+use Rattle.short_vectors.proofs.Loop.{Repeats}
 use Rattle.processing_marks.specs.Marked.{MarksStepped, MarksIterated, flagged}
 use Rattle.processing_marks.specs.Register.{knownIn, allIn, markIn, copyIn}
 

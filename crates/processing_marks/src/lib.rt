@@ -5,7 +5,7 @@ mod vector;
 ghost use mathlib.Core.Path.{_≡_};
 ghost use mathlib.Core.Bool.{Bool};
 ghost use Prim.Native.Nat.{ℕ};
-ghost use Rattle.steps.specs.Vector.{precision};
+ghost use Rattle.short_vectors.specs.Vector.{precision};
 ghost use Rattle.processing.specs.Data.{dataTree, wordTree, extensionTree, integerTree};
 ghost use Rattle.processing_marks.specs.Marked.{Marked, flagged, convertTree};
 use bits::field::bit;

@@ -1,8 +1,8 @@
 // The marks of a register: of a single its own, of a double those of both words. `double` says which numbering a number is of.
 ghost use mathlib.Core.Path.{_≡_};
 ghost use Prim.Native.Nat.{_<_};
-ghost use Rattle.steps.specs.Vector.{precision};
-ghost use Rattle.steps.specs.Arithmetic.{operands};
+ghost use Rattle.short_vectors.specs.Vector.{precision};
+ghost use Rattle.arithmetic_steps.specs.Arithmetic.{operands};
 ghost use Rattle.processing.specs.Fields.{regD, regN, regM};
 ghost use Rattle.processing_marks.specs.Register.{knownIn, allIn, markIn, copyIn};
 use numbers::arithmetic::Arithmetic;

@@ -1,9 +1,9 @@
 // The marks of stepping words, iteration by iteration.
 ghost use Prim.Native.Nat.{_<_};
 ghost use Rattle.steps.specs.declared.sign.SignOperation.{SignOperation};
-ghost use Rattle.steps.specs.Vector.{precision, iterationsOf, monadicStep};
+ghost use Rattle.short_vectors.specs.Vector.{precision, iterationsOf, monadicStep};
 ghost use Rattle.steps.specs.Sign.{signStep};
-ghost use Rattle.steps.specs.Arithmetic.{dyadicStep};
+ghost use Rattle.arithmetic_steps.specs.Arithmetic.{dyadicStep};
 ghost use Rattle.steps.specs.Root.{rootStep};
 ghost use Rattle.processing_marks.specs.Marked.{MarksIterated};
 use super::register::copy;
@@ -11,7 +11,7 @@ use super::register::known;
 use super::register::mark;
 use super::register::operands_known;
 use numbers::arithmetic::Arithmetic;
-use steps::vector::Vector;
+use short_vectors::vector::Vector;
 
 // Arithmetic: the target is known when every word read is.
 pub(crate) fn mark_arithmetic(

@@ -5,7 +5,7 @@ use lib.Ieee.{Format}
 use Rattle.machine.specs.Place.{flags}
 use Rattle.numbers.specs.Compare.{compareFlags}
 use Rattle.meaning.specs.Step.{Step, fst, snd}
-use Rattle.steps.specs.Register.{wordsOf, valuesOf}
+use Rattle.short_vectors.specs.Register.{wordsOf, valuesOf}
 
 -- a compare sets FPSCR 31:28 alone
 abbrev pub compareStep : Format → ℕ → ℕ → Step

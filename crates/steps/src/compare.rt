@@ -2,7 +2,7 @@
 ghost use mathlib.Core.Path.{_≡_};
 ghost use Prim.Native.Nat.{_+_, _*_, _%_, _^_, _<_};
 ghost use lib.Ieee.{binary32, binary64};
-ghost use Rattle.steps.specs.Register.{SteppedWith};
+ghost use Rattle.short_vectors.specs.Register.{SteppedWith};
 ghost use Rattle.steps.specs.Compare.{compareStep, compareZeroStep};
 use machine::registers::Double;
 use machine::registers::Single;

@@ -1,6 +1,4 @@
-// The steps of data processing over lent singles, and their iterations over short vectors.
-pub mod arithmetic;
+// Moves and sign changes, square roots and compares over lent singles, and the iterations of the first two over short vectors.
 pub mod compare;
 pub mod root;
 pub mod sign;
-pub mod vector;

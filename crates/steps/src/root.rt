@@ -1,10 +1,9 @@
 // Square roots. They are never subnormal, so that flushing would change none.
 ghost use Prim.Native.Nat.{ℕ, _<_};
 ghost use lib.Ieee.{binary32, binary64};
-ghost use Rattle.steps.specs.Vector.{iterationsOf, monadicStep};
-ghost use Rattle.steps.specs.Register.{Stepped, Iterated};
+ghost use Rattle.short_vectors.specs.Vector.{iterationsOf, monadicStep};
+ghost use Rattle.short_vectors.specs.Register.{Stepped, Iterated};
 ghost use Rattle.steps.specs.Root.{rootStep};
-use super::vector::Vector;
 use machine::registers::Double;
 use machine::registers::Single;
 use machine::registers::get_double;
@@ -13,6 +12,7 @@ use machine::registers::set_double;
 use machine::registers::set_single;
 use roots::root::square_root32;
 use roots::root::square_root64;
+use short_vectors::vector::Vector;
 
 fn root_single(s: &mut [u32; 32], d: Single, m: Single)
     ensures { λ _. ⌜ ((control : ℕ) → Stepped (rootStep binary32 control (d .0) (m .0)) (now (s .entry)) (now (s .exit))) ⌝ }

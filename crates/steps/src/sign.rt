@@ -2,10 +2,9 @@
 ghost use mathlib.Core.Path.{_≡_};
 ghost use Prim.Native.Nat.{_<_};
 ghost use lib.Ieee.{binary32, binary64};
-ghost use Rattle.steps.specs.Vector.{iterationsOf, monadicStep};
-ghost use Rattle.steps.specs.Register.{Stepped, Iterated};
+ghost use Rattle.short_vectors.specs.Vector.{iterationsOf, monadicStep};
+ghost use Rattle.short_vectors.specs.Register.{Stepped, Iterated};
 ghost use Rattle.steps.specs.Sign.{changed, signStep};
-use super::vector::Vector;
 use machine::registers::Double;
 use machine::registers::Single;
 use machine::registers::Words;
@@ -13,6 +12,7 @@ use machine::registers::get_single;
 use machine::registers::get_words;
 use machine::registers::set_single;
 use machine::registers::set_words;
+use short_vectors::vector::Vector;
 
 // What becomes of the sign: VMOV, VABS, VNEG.
 pub enum SignOperation {

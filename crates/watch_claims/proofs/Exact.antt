@@ -15,7 +15,7 @@ use Rattle.meaning.specs.Step.{after, afterMarks}
 use Rattle.meaning.specs.Tree.{watched}
 use Rattle.processing.specs.Data.{operationTree, dataTree}
 use Rattle.processing.specs.Operation.{extensionBy, arithmetics, operationBy, operationOf}
-use Rattle.steps.specs.Vector.{stepOf, secondOf}
+use Rattle.short_vectors.specs.Vector.{stepOf, secondOf}
 use Rattle.memory.specs.LoadStore.{accessTree, loadStoreTree}
 use Rattle.run.specs.Word.{classTree, conditioned, meaning}
 use Rattle.transfers.specs.Transfer.{transferTree}

@@ -3,7 +3,7 @@ use Rattle.processing_marks.proofs.Done.{changeOf, sign-below, both, on
 use borrow.Author.Tests.{eqb-true}
 use lib.Dec.{eqb}
 use native.Mathlib.Omega.{arith}
-use Rattle.steps.specs.Vector.{precision}
+use Rattle.short_vectors.specs.Vector.{precision}
 use Rattle.processing_marks.proofs.Steps.{compare-marks, compare-zero-marks, from-marks}
 use Rattle.processing.proofs.Done.{extension-is, compare-either, compare-zero-either, from-either, unsigned-either, signed-either, extension-none}
 use Rattle.steps.specs.Root.{rootStep}

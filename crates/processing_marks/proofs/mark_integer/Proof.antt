@@ -9,7 +9,7 @@ use Rattle.processing.specs.Fields.{regD, regM}
 use Rattle.processing.specs.Data.{integerTree}
 use Rattle.processing_marks.proofs.Done.{once-marked}
 use Rattle.processing_marks.proofs.Steps.{truncate-marks, round-marks}
-use Rattle.steps.specs.Vector.{precision}
+use Rattle.short_vectors.specs.Vector.{precision}
 use Rattle.processing_marks.proofs.mark_integer.Statement.{statement}
 use Rattle.processing_marks.proofs.mark_integer.Tie as tie
 

@@ -5,7 +5,7 @@ use Rattle.processing.specs.Fields.{arithmeticAt}
 use Rattle.processing.specs.Data.{wordTree, extensionTree}
 use Rattle.processing.proofs.Done.{word-arithmetic, word-extension, word-none}
 use Rattle.processing_marks.proofs.Done.{dyadic-marked, marked-as, undefined-marked}
-use Rattle.steps.specs.Vector.{precision}
+use Rattle.short_vectors.specs.Vector.{precision}
 use Rattle.processing_marks.proofs.mark_word.Statement.{statement}
 use Rattle.processing_marks.proofs.mark_word.Tie as tie
 

@@ -3,10 +3,10 @@ use Prim.Native.Nat.{_-_}
 use mathlib.Core.Path.{sym}
 use native.Mathlib.Omega.{arith}
 use borrow.Author.Needs.{needs}
-use Rattle.steps.specs.Vector.{precision}
-use Rattle.steps.specs.Arithmetic.{arithmeticStep}
+use Rattle.short_vectors.specs.Vector.{precision}
+use Rattle.arithmetic_steps.specs.Arithmetic.{arithmeticStep}
 use Rattle.processing_marks.proofs.Steps.{onMarks, arithmetic-marks}
-use Rattle.steps.proofs.Loop.{Iterating, initially, d-steps, n-steps, m-steps, again, finally}
+use Rattle.short_vectors.proofs.Loop.{Iterating, initially, d-steps, n-steps, m-steps, again, finally}
 use Rattle.processing_marks.proofs.vector.mark_arithmetic.Statement.{statement}
 use Rattle.processing_marks.proofs.vector.mark_arithmetic.Tie as tie
 

@@ -3,10 +3,10 @@ use Prim.Native.Nat.{_-_}
 use mathlib.Core.Path.{sym}
 use native.Mathlib.Omega.{arith}
 use borrow.Author.Needs.{needs}
-use Rattle.steps.specs.Vector.{precision}
+use Rattle.short_vectors.specs.Vector.{precision}
 use Rattle.steps.specs.Root.{rootStep}
 use Rattle.processing_marks.proofs.Steps.{onMarks, root-marks}
-use Rattle.steps.proofs.Loop.{Iterating, initially, d-steps, m-steps, again, finally}
+use Rattle.short_vectors.proofs.Loop.{Iterating, initially, d-steps, m-steps, again, finally}
 use Rattle.processing_marks.proofs.vector.mark_root.Statement.{statement}
 use Rattle.processing_marks.proofs.vector.mark_root.Tie as tie
 

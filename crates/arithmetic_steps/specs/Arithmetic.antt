@@ -1,0 +1,23 @@
+-- One step of arithmetic, and an iteration of it.
+use Prim.Native.Nat.{ℕ}
+use mathlib.Core.Bool.{cond}
+use mathlib.Core.List.{List, [], _∷_}
+use lib.Ieee.{Format}
+use Rattle.numbers.specs.declared.arithmetic.Arithmetic.{Arithmetic}
+use Rattle.numbers.specs.Arithmetic.{arithmetic, accumulates}
+use Rattle.meaning.specs.Step.{Step, fst, rest, snd}
+use Rattle.short_vectors.specs.Vector.{bankOf, strideOf, stepOf, secondOf}
+use Rattle.short_vectors.specs.Register.{wordsOf, valuesOf, written}
+
+-- old d is read by an accumulate alone
+abbrev pub operands : Arithmetic → ℕ → ℕ → ℕ → List ℕ
+operands kind d n m = cond (accumulates kind) (n ∷ m ∷ d ∷ []) (n ∷ m ∷ [])
+
+abbrev pub arithmeticStep : Format → ℕ → Arithmetic → ℕ → ℕ → ℕ → Step
+arithmeticStep f c kind d n m =
+    written f d (wordsOf f (operands kind d n m))
+    (λ vs. let x = valuesOf f vs in arithmetic f c kind (fst x) (snd x) (fst (rest (rest x))))
+
+-- iteration i: d and n step, and m unless it is in bank 0
+abbrev pub dyadicStep : Format → ℕ → Arithmetic → ℕ → ℕ → ℕ → ℕ → Step
+dyadicStep f c kind d n m i = arithmeticStep f c kind (stepOf (bankOf f) (strideOf c) d i) (stepOf (bankOf f) (strideOf c) n i) (secondOf (bankOf f) (strideOf c) m i)

@@ -1,0 +1,201 @@
+// The arithmetic: iterations in turn, each reading what earlier ones wrote.
+ghost use mathlib.Core.Path.{_≡_};
+ghost use Prim.Native.Nat.{ℕ, _/_, _%_, _^_, _<_};
+ghost use lib.Ieee.{binary32, binary64};
+ghost use Rattle.short_vectors.specs.Vector.{iterationsOf};
+ghost use Rattle.short_vectors.specs.Register.{Stepped, Iterated};
+ghost use Rattle.arithmetic_steps.specs.Arithmetic.{arithmeticStep, dyadicStep};
+use machine::registers::Double;
+use machine::registers::Single;
+use machine::registers::get_double;
+use machine::registers::get_single;
+use machine::registers::set_double;
+use machine::registers::set_single;
+use numbers::arithmetic::Arithmetic;
+use numbers::arithmetic::applied32;
+use numbers::arithmetic::applied64;
+use numbers::arithmetic::arithmetic32;
+use numbers::arithmetic::arithmetic64;
+use short_vectors::vector::Vector;
+
+fn arithmetic_single(
+    s: &mut [u32; 32],
+    control: u32,
+    kind: Arithmetic,
+    d: Single,
+    n: Single,
+    m: Single,
+)
+    ensures { λ _. ⌜ Stepped (arithmeticStep binary32 control kind (d .0) (n .0) (m .0)) (now (s .entry)) (now (s .exit)) ⌝ }
+{
+    let a = get_single(s, n);
+    let b = get_single(s, m);
+    let old = get_single(s, d);
+    let x = arithmetic32(control, kind, a, b, old);
+    set_single(s, d, x);
+}
+
+fn arithmetic_double(
+    s: &mut [u32; 32],
+    control: u32,
+    kind: Arithmetic,
+    d: Double,
+    n: Double,
+    m: Double,
+)
+    ensures { λ _. ⌜ Stepped (arithmeticStep binary64 control kind (d .0) (n .0) (m .0)) (now (s .entry)) (now (s .exit)) ⌝ }
+{
+    let a = get_double(s, n);
+    let b = get_double(s, m);
+    let old = get_double(s, d);
+    let x = arithmetic64(control, kind, a, b, old);
+    set_double(s, d, x);
+}
+
+// A step where results are stored as they are.
+fn unflushed_single(s: &mut [u32; 32], kind: Arithmetic, d: Single, n: Single, m: Single)
+    ensures { λ _. ⌜ ((control : ℕ) → control / 2 ^ 24 % 2 ≡ 0 → Stepped (arithmeticStep binary32 control kind (d .0) (n .0) (m .0)) (now (s .entry)) (now (s .exit))) ⌝ }
+{
+    let a = get_single(s, n);
+    let b = get_single(s, m);
+    let old = get_single(s, d);
+    let x = applied32(kind, a, b, old);
+    set_single(s, d, x);
+}
+
+// The iterations where results are stored as they are.
+fn unflushed_singles(
+    s: &mut [u32; 32],
+    control: u32,
+    kind: Arithmetic,
+    d: Single,
+    n: Single,
+    m: Single,
+)
+    requires { ⌜ (d .0 < 32) × (n .0 < 32) × (m .0 < 32) × (control / 2 ^ 24 % 2 ≡ 0) ⌝ }
+    ensures { λ _. ⌜ Iterated (iterationsOf binary32 control (d .0)) (dyadicStep binary32 control kind (d .0) (n .0) (m .0)) (now (s .entry)) (now (s .exit)) ⌝ }
+{
+    let vector = Vector::new(control, false, d.0);
+    let count = vector.iterations;
+    let mut dn = d.0;
+    let mut nn = n.0;
+    let mut mn = m.0;
+    let mut i: usize = 0;
+    loop {
+        unflushed_single(s, kind, Single(dn), Single(nn), Single(mn));
+        i += 1;
+        if i >= count {
+            return;
+        }
+        dn = vector.step(dn, 1);
+        nn = vector.step(nn, 1);
+        mn = vector.second(mn, 1);
+    }
+}
+
+pub fn arithmetic_singles(
+    s: &mut [u32; 32],
+    control: u32,
+    kind: Arithmetic,
+    d: Single,
+    n: Single,
+    m: Single,
+)
+    requires { ⌜ (d .0 < 32) × (n .0 < 32) × (m .0 < 32) ⌝ }
+    ensures { λ _. ⌜ Iterated (iterationsOf binary32 control (d .0)) (dyadicStep binary32 control kind (d .0) (n .0) (m .0)) (now (s .entry)) (now (s .exit)) ⌝ }
+{
+    if control / 0x100_0000 % 2 == 0 {
+        unflushed_singles(s, control, kind, d, n, m);
+        return;
+    }
+    let vector = Vector::new(control, false, d.0);
+    let count = vector.iterations;
+    let mut dn = d.0;
+    let mut nn = n.0;
+    let mut mn = m.0;
+    let mut i: usize = 0;
+    loop {
+        arithmetic_single(s, control, kind, Single(dn), Single(nn), Single(mn));
+        i += 1;
+        if i >= count {
+            return;
+        }
+        dn = vector.step(dn, 1);
+        nn = vector.step(nn, 1);
+        mn = vector.second(mn, 1);
+    }
+}
+
+// A step where results are stored as they are.
+fn unflushed_double(s: &mut [u32; 32], kind: Arithmetic, d: Double, n: Double, m: Double)
+    ensures { λ _. ⌜ ((control : ℕ) → control / 2 ^ 24 % 2 ≡ 0 → Stepped (arithmeticStep binary64 control kind (d .0) (n .0) (m .0)) (now (s .entry)) (now (s .exit))) ⌝ }
+{
+    let a = get_double(s, n);
+    let b = get_double(s, m);
+    let old = get_double(s, d);
+    let x = applied64(kind, a, b, old);
+    set_double(s, d, x);
+}
+
+// The iterations where results are stored as they are.
+fn unflushed_doubles(
+    s: &mut [u32; 32],
+    control: u32,
+    kind: Arithmetic,
+    d: Double,
+    n: Double,
+    m: Double,
+)
+    requires { ⌜ (d .0 < 32) × (n .0 < 32) × (m .0 < 32) × (control / 2 ^ 24 % 2 ≡ 0) ⌝ }
+    ensures { λ _. ⌜ Iterated (iterationsOf binary64 control (d .0)) (dyadicStep binary64 control kind (d .0) (n .0) (m .0)) (now (s .entry)) (now (s .exit)) ⌝ }
+{
+    let vector = Vector::new(control, true, d.0);
+    let count = vector.iterations;
+    let mut dn = d.0;
+    let mut nn = n.0;
+    let mut mn = m.0;
+    let mut i: usize = 0;
+    loop {
+        unflushed_double(s, kind, Double(dn), Double(nn), Double(mn));
+        i += 1;
+        if i >= count {
+            return;
+        }
+        dn = vector.step(dn, 1);
+        nn = vector.step(nn, 1);
+        mn = vector.second(mn, 1);
+    }
+}
+
+pub fn arithmetic_doubles(
+    s: &mut [u32; 32],
+    control: u32,
+    kind: Arithmetic,
+    d: Double,
+    n: Double,
+    m: Double,
+)
+    requires { ⌜ (d .0 < 32) × (n .0 < 32) × (m .0 < 32) ⌝ }
+    ensures { λ _. ⌜ Iterated (iterationsOf binary64 control (d .0)) (dyadicStep binary64 control kind (d .0) (n .0) (m .0)) (now (s .entry)) (now (s .exit)) ⌝ }
+{
+    if control / 0x100_0000 % 2 == 0 {
+        unflushed_doubles(s, control, kind, d, n, m);
+        return;
+    }
+    let vector = Vector::new(control, true, d.0);
+    let count = vector.iterations;
+    let mut dn = d.0;
+    let mut nn = n.0;
+    let mut mn = m.0;
+    let mut i: usize = 0;
+    loop {
+        arithmetic_double(s, control, kind, Double(dn), Double(nn), Double(mn));
+        i += 1;
+        if i >= count {
+            return;
+        }
+        dn = vector.step(dn, 1);
+        nn = vector.step(nn, 1);
+        mn = vector.second(mn, 1);
+    }
+}

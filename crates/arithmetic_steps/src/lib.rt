@@ -1,0 +1,2 @@
+// Arithmetic over lent singles, and its iterations over short vectors.
+pub mod arithmetic;

@@ -1,0 +1,4 @@
+-- Laws of the crate's proofs, over the precision.
+
+pub mod Loop
+mod Banks

@@ -1,0 +1,2 @@
+// VFPv2's short vectors.
+pub mod vector;

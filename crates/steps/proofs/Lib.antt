@@ -1,5 +1,0 @@
--- Laws of the crate's proofs, over the precision.
-
-pub mod Loop
-mod Steps
-mod Banks
