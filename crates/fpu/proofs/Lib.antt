@@ -3,3 +3,4 @@ pub mod Calls
 pub mod Refused
 pub mod Runs
 pub mod Watches
+pub mod Kept
