@@ -12,7 +12,8 @@ use Rattle.meaning.specs.Stop.{report}
 use Rattle.run.specs.declared.Ran.{Ran}
 use Rattle.run.specs.Run.{Reply, stopOf, answered}
 use Rattle.layout.specs.State.{encode, decode}
-use Rattle.fpu.specs.Outcome.{outcome, answerOf, invalidArgument, validCall, decodedState, ran}
+use Rattle.answer.specs.Answer.{answerOf}
+use Rattle.fpu.specs.Outcome.{outcome, invalidArgument, validCall, decodedState, ran}
 
 module _ (y : State → Reply) (l w a : List ℕ) (thumb : ℕ) (b : Bool) (u : b ≡ validCall l thumb (length a)) where
   pub not-run : not b ≡ true → outcome invalidArgument l w a ≡ ran y l w thumb a

@@ -20,7 +20,8 @@ use Rattle.layout.specs.State.{encode, decode, Valid}
 use Rattle.layout.specs.Marks.{encodeMarks, decodeMarks, validMarks}
 use Rattle.layout.proofs.Both.{fst, snd}
 use Rattle.layout.proofs.Bytes.{valid-marks-bytes}
-use Rattle.fpu.specs.Outcome.{answerOf, invalidArgument, validCall, decodedState}
+use Rattle.answer.specs.Answer.{answerOf}
+use Rattle.fpu.specs.Outcome.{invalidArgument, validCall, decodedState}
 use Rattle.fpu.specs.WatchOutcome.{watchOutcome, reportedWatch, validWatch, decodedMap, WatchPromise}
 use Rattle.fpu.proofs.Calls.{valid-call-state, valid-call-answer}
 

@@ -1,3 +1,4 @@
 -- What the exported functions promise.
 pub mod Outcome
 pub mod WatchOutcome
+pub mod Buffers

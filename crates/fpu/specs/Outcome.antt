@@ -1,16 +1,16 @@
 -- The outcome of an exported function: its result, and each lent buffer.
 use Prim.Native.Nat.{ℕ, _/_, _%_, _^_}
 use mathlib.Core.Bool.{Bool, cond, _&&_}
-use mathlib.Core.List.{List, [], _∷_}
+use mathlib.Core.List.{List, []}
 use lib.Dec.{eqb, ltb}
 use lib.ListN.{length}
 use Rattle.bits.specs.Psr.{oneOf, psrOf, holds}
 use Rattle.machine.specs.Machine.{newMachine}
 use Rattle.machine.specs.Place.{State, state}
-use Rattle.meaning.specs.Stop.{Report}
 use Rattle.vfp.specs.Call.{Reply}
 use Rattle.run.specs.Run as Run
 use Rattle.layout.specs.State.{encode, decode, valid}
+use Rattle.answer.specs.Answer.{answerOf}
 
 pub record Outcome : Type 0 where
   pub result : ℕ
@@ -20,10 +20,6 @@ pub record Outcome : Type 0 where
 
 abbrev pub outcome : ℕ → List ℕ → List ℕ → List ℕ → Outcome
 outcome r l w a = record { result = r; words = l; window = w; answer = a }
-
--- the four words of an answer: count, place, address, word
-abbrev pub answerOf : ℕ → Report → List ℕ
-answerOf count p = count ∷ p .place ∷ p .address ∷ p .word ∷ []
 
 -- a reply, after so many words of a list; a call's count is 0
 abbrev pub reported : ℕ → Reply → Outcome

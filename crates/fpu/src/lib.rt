@@ -1,16 +1,16 @@
 // The C interface: a machine is a state of 52 words, places 0 to 51 in order. include/fpu.h says what callers have to know.
 ghost use mathlib.Core.Path.{_≡_};
-ghost use mathlib.Core.List.{List, [], _∷_};
-ghost use Prim.Native.Nat.{ℕ, _^_, _<_};
+ghost use mathlib.Core.List.{List, []};
+ghost use Prim.Native.Nat.{ℕ};
 ghost use lib.Dec.{eqb};
-ghost use lib.ListN.{length};
 ghost use Rattle.processing.specs.Data.{dataTree};
 ghost use Rattle.transfers.specs.Transfer.{transferTree};
-ghost use Rattle.meaning.specs.Stop.{report};
-ghost use Rattle.vfp.specs.Call.{exitReport, reply, loadStoreReply};
-ghost use Rattle.run.specs.Run.{stopOf, runReply};
-ghost use Rattle.fpu.specs.Outcome.{outcome, called, ran, validCall, answerOf, renewed, checked};
+ghost use Rattle.vfp.specs.Call.{reply, loadStoreReply};
+ghost use Rattle.run.specs.Run.{runReply};
+ghost use Rattle.fpu.specs.Outcome.{outcome, called, ran, validCall, renewed, checked};
 ghost use Rattle.fpu.specs.WatchOutcome.{watchOutcome, validWatch, WatchPromise};
+use answer::report_exit;
+use answer::report_stop;
 use bits::psr::Psr;
 use layout::marks::decode_marks;
 use layout::marks::encode_marks;
@@ -20,8 +20,6 @@ use layout::state::encode;
 use layout::state::is_valid;
 use machine::Machine;
 use machine::place;
-use run::Stop;
-use vfp::Exit;
 
 // Nothing was touched: a length, a bit of the state, a mark or thumb is not as it has to be.
 const INVALID_ARGUMENT: u32 = 255;
@@ -47,54 +45,6 @@ fn is_valid_watch(state: &[u32], marks: &[u8], thumb: u32, words: usize) -> bool
         return false;
     }
     is_valid_call(state, thumb, words)
-}
-
-// The kind of an exit; the values that it has go into the answer.
-fn report_exit(exit: Exit, answer: &mut [u32]) -> u32
-    requires { ⌜ length (now answer) ≡ 4 ⌝ }
-    ensures { λ r. ⌜ (r ≡ exitReport exit .kind) × (now (answer .exit) ≡ answerOf 0 (exitReport exit)) ⌝ }
-{
-    match exit {
-        Exit::Nothing => write_answer(answer, 0, 0, 0, 0, 0),
-        Exit::Undefined { pc, opcode } => write_answer(answer, 2, 0, 0, pc, opcode),
-        Exit::Branched => write_answer(answer, 3, 0, 0, 0, 0),
-        Exit::Refused(n) => write_answer(answer, 100 + n as u32, 0, 0, 0, 0),
-    }
-}
-
-// The same of a run's stop, with the count.
-fn report_stop(stop: Stop, count: usize, answer: &mut [u32]) -> u32
-    requires { ⌜ (length (now answer) ≡ 4) × (count < 2 ^ 32) × (report (stopOf stop) .place < 2 ^ 32) ⌝ }
-    ensures { λ r. ⌜ (r ≡ report (stopOf stop) .kind) × (now (answer .exit) ≡ answerOf count (report (stopOf stop))) ⌝ }
-{
-    let counted = count as u32;
-    match stop {
-        Stop::Finished => write_answer(answer, 0, counted, 0, 0, 0),
-        Stop::Foreign => write_answer(answer, 1, counted, 0, 0, 0),
-        Stop::Undefined { pc, opcode } => write_answer(answer, 2, counted, 0, pc, opcode),
-        Stop::Branched => write_answer(answer, 3, counted, 0, 0, 0),
-        Stop::Hangs(place) => write_answer(answer, 4, counted, place as u32, 0, 0),
-        Stop::Refused(n) => write_answer(answer, 100 + n as u32, counted, 0, 0, 0),
-    }
-}
-
-// Writes an answer, and hands its kind back.
-fn write_answer(
-    answer: &mut [u32],
-    kind: u32,
-    count: u32,
-    place: u32,
-    address: u32,
-    word: u32,
-) -> u32
-    requires { ⌜ length (now answer) ≡ 4 ⌝ }
-    ensures { λ r. ⌜ (r ≡ kind) × (now (answer .exit) ≡ count ∷ place ∷ address ∷ word ∷ []) ⌝ }
-{
-    answer[0] = count;
-    answer[1] = place;
-    answer[2] = address;
-    answer[3] = word;
-    kind
 }
 
 // A new machine's state.

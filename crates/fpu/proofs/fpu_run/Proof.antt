@@ -3,7 +3,7 @@ use lib.ListN.{length}
 use denote.Ref.{now}
 use borrow.Author.Needs.{needs}
 use Rattle.fpu.proofs.Runs.{not-run, has-run}
-use Rattle.fpu.proofs.Bounds.{ran-fits}
+use Rattle.answer.proofs.Bounds.{ran-fits}
 use Rattle.fpu.proofs.Calls.{valid-call-state, valid-call-answer}
 use Rattle.run.specs.Run.{runReply}
 use Rattle.machine.specs.Place.{state}

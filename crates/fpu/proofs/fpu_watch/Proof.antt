@@ -2,7 +2,7 @@
 use lib.ListN.{length}
 use borrow.Author.Needs.{needs}
 use Rattle.fpu.proofs.Watches.{valid-watch-state, valid-watch-answer, valid-watch-marks, not-watched, has-watched}
-use Rattle.fpu.proofs.Bounds.{watched-fits}
+use Rattle.answer.proofs.Bounds.{watched-fits}
 use Rattle.meaning.specs.Map.{mapOf}
 use Rattle.machine.specs.Place.{state}
 use Rattle.fpu.proofs.fpu_watch.Statement.{statement}

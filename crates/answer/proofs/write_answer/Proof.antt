@@ -1,9 +1,9 @@
--- `fpu::write_answer` meets its contract.
+-- `answer::write_answer` meets its contract.
 use mathlib.Core.Path.{refl}
 use borrow.Author.Needs.{needs}
-use Rattle.fpu.proofs.Answer.{four-words}
-use Rattle.fpu.proofs.write_answer.Statement.{statement}
-use Rattle.fpu.proofs.write_answer.Tie as tie
+use Rattle.answer.proofs.Answer.{four-words}
+use Rattle.answer.proofs.write_answer.Statement.{statement}
+use Rattle.answer.proofs.write_answer.Tie as tie
 
 slice-write-answer : tie.Need-slice-write-answer
 slice-write-answer c = search needs

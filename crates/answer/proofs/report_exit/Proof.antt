@@ -1,7 +1,7 @@
--- `fpu::report_exit` meets its contract.
+-- `answer::report_exit` meets its contract.
 use borrow.Author.Needs.{needs}
-use Rattle.fpu.proofs.report_exit.Statement.{statement}
-use Rattle.fpu.proofs.report_exit.Tie as tie
+use Rattle.answer.proofs.report_exit.Statement.{statement}
+use Rattle.answer.proofs.report_exit.Tie as tie
 
 enum-told : tie.Need-enum-told
 enum-told c = search needs

@@ -1,4 +1,4 @@
--- The counts and the places of runs fit in a word.
+-- The counts and the places of runs fit in a word, and within the limits no run reports a refusal.
 use Prim.Native.Nat.{ℕ, suc, _+_, _^_, _<_, _≤_}
 use native.Mathlib.Omega.{arith}
 use mathlib.Core.Path.{_≡_, refl, sym, subst}
@@ -33,11 +33,12 @@ use Rattle.meaning.specs.Run as R
 
 -- ---- the places that a word asks for
 
-abbrev Fine : Stop → Type 0
-Fine s = report s .place < before
+-- a place before the window, and a kind that is no refusal
+abbrev pub Fine : Stop → Type 0
+Fine s = (report s .place < before) × (report s .kind < 100)
 
 -- every place that a tree asks for stands before the window, and no leaf hangs by itself
-unfoldable Near : Tree → Type 0
+unfoldable pub Near : Tree → Type 0
 Near (stop s) = Fine s
 Near (go a) = _≡_ {A = ℕ} 0 0
 Near (branch a) = _≡_ {A = ℕ} 0 0
@@ -73,13 +74,13 @@ near-operation thumb f w ftoui = refl
 near-operation thumb f w ftouiz = refl
 near-operation thumb f w ftosi = refl
 near-operation thumb f w ftosiz = refl
-near-operation thumb f w undefined = (omega arith, λ v. omega arith)
+near-operation thumb f w undefined = (omega arith, λ v. (omega arith, omega arith))
 
 near-undefined : (thumb : Bool) (w : ℕ) → Near (undefinedTree thumb w)
 unfolding Near
-near-undefined thumb w = (omega arith, λ v. omega arith)
+near-undefined thumb w = (omega arith, λ v. (omega arith, omega arith))
 
-near-data : (thumb : Bool) (w : ℕ) → Near (dataTree thumb w)
+pub near-data : (thumb : Bool) (w : ℕ) → Near (dataTree thumb w)
 unfolding dataTree
 near-data thumb w =
     either (eqb (field w 8 11) 10) _ _ (near-operation thumb binary32 w (operationOf w))
@@ -97,7 +98,7 @@ near-nothing : Near (go nothing)
 unfolding Near
 near-nothing = refl
 
-near-transfer : (thumb : Bool) (w : ℕ) → Near (transferTree thumb w)
+pub near-transfer : (thumb : Bool) (w : ℕ) → Near (transferTree thumb w)
 unfolding transferTree
 near-transfer thumb w = by (transferOf w)
   where
@@ -110,7 +111,7 @@ near-access : (f : Format) (base w : ℕ) → Near (accessTree f base w)
 unfolding accessTree Near
 near-access f base w = either (eqb (field w 21 27) 0b110_0010) _ _ refl (omega arith, λ v. refl)
 
-near-load-store : (base w : ℕ) → Near (loadStoreTree base w)
+pub near-load-store : (base w : ℕ) → Near (loadStoreTree base w)
 unfolding loadStoreTree
 near-load-store base w = either (eqb (field w 8 11) 10) _ _ (near-access binary32 base w) (either (eqb (field w 8 11) 11) _ _ (near-access binary64 base w) near-nothing)
 
@@ -124,35 +125,35 @@ near-conditioned c t h = either (eqb c 14) t _ h (omega arith, λ f. either (hol
 
 near-foreign : Near (stop foreign)
 unfolding Near
-near-foreign = omega arith
+near-foreign = (omega arith, omega arith)
 
-near-meaning : (base w : ℕ) → Near (meaning base w)
+pub near-meaning : (base w : ℕ) → Near (meaning base w)
 unfolding meaning
 near-meaning base w = either (foreignWord w) _ _ near-foreign (near-conditioned (field w 28 31) (classTree base w) (near-class base w))
 
 -- ---- the stops and the counts of runs
 
-plain-fine : (t : Tree) (st : State) → Near t → Fine (exitOf (plain t st .next))
+pub plain-fine : (t : Tree) (st : State) → Near t → Fine (exitOf (plain t st .next))
 unfolding Near plain
 plain-fine (stop s) st h = h
-plain-fine (go a) st h = omega arith
-plain-fine (branch a) st h = omega arith
+plain-fine (go a) st h = (omega arith, omega arith)
+plain-fine (branch a) st h = (omega arith, omega arith)
 plain-fine (ask p k) st h = plain-fine (k (get st p)) st (h .1 (get st p))
 
 watched-fine : (t : Tree) (st : State) (μ : Map) → Near t → Fine (exitOf (watched t st μ .next))
 unfolding Near watched
 watched-fine (stop s) st μ h = h
-watched-fine (go a) st μ h = omega arith
-watched-fine (branch a) st μ h = omega arith
+watched-fine (go a) st μ h = (omega arith, omega arith)
+watched-fine (branch a) st μ h = (omega arith, omega arith)
 watched-fine (ask p k) st μ h = by (watched-fine (k (get st p)) st μ (h .1 (get st p))) (known μ p)
   where
     by : Fine (exitOf (watched (k (get st p)) st μ .next)) → (b : Bool)
         → Fine (exitOf (cond b (watched (k (get st p)) st μ) (seen st μ (halt (hangs (number p)))) .next))
     by ih true = ih
-    by ih false = h .0
+    by ih false = (h .0, omega arith)
 
 -- a stop whose place stands before the window, and a count of at most k words
-abbrev Bounded : ℕ → Stop → ℕ → Type 0
+abbrev pub Bounded : ℕ → Stop → ℕ → Type 0
 Bounded k s count = Fine s × (count ≤ k)
 
 module _ (M : ℕ → Tree) (near : (w : ℕ) → Near (M w)) where
@@ -163,9 +164,9 @@ module _ (M : ℕ → Tree) (near : (w : ℕ) → Near (M w)) where
   followed last st n k more f b = (f, omega arith)
   followed (halt s) st n k more f b = (f, omega arith)
 
-  run-bounded : (ws : List ℕ) (n : ℕ) (st : State) → Bounded (n + length ws) (R.run M ws n st .stop) (R.run M ws n st .count)
+  pub run-bounded : (ws : List ℕ) (n : ℕ) (st : State) → Bounded (n + length ws) (R.run M ws n st .stop) (R.run M ws n st .count)
   unfolding R.run
-  run-bounded [] n st = (omega arith, omega arith)
+  run-bounded [] n st = ((omega arith, omega arith), omega arith)
   run-bounded (w ∷ ws) n st =
       let o = plain (M w) st in
       followed (o .next) (o .st) n (length ws) (R.run M ws (suc n) (step R.advance (o .st))) (plain-fine (M w) st (near w))
@@ -178,9 +179,9 @@ module _ (M : ℕ → Tree) (near : (w : ℕ) → Near (M w)) where
   followed-with last st μ n k more f b = (f, omega arith)
   followed-with (halt s) st μ n k more f b = (f, omega arith)
 
-  watch-bounded : (ws : List ℕ) (n : ℕ) (st : State) (μ : Map) → Bounded (n + length ws) (R.watch M ws n st μ .stop) (R.watch M ws n st μ .count)
+  pub watch-bounded : (ws : List ℕ) (n : ℕ) (st : State) (μ : Map) → Bounded (n + length ws) (R.watch M ws n st μ .stop) (R.watch M ws n st μ .count)
   unfolding R.watch
-  watch-bounded [] n st μ = (omega arith, omega arith)
+  watch-bounded [] n st μ = ((omega arith, omega arith), omega arith)
   watch-bounded (w ∷ ws) n st μ =
       let o = watched (M w) st μ in
       followed-with (o .next) (o .st) (o .map) n (length ws) (R.watch M ws (suc n) (step R.advance (o .st)) (o .map)) (watched-fine (M w) st μ (near w))
@@ -205,7 +206,7 @@ run-fits base list st = by (eqb n 0) refl
     by true e =
         let b = run-bounded (meaning base) (near-meaning base) list 0 st in
         let l = list-within (length list) base (length (st .window)) (st .machine .thumb) (eqb-true n 0 e) in
-        (omega (arith, b .1, l), omega (arith, b .0))
+        (omega (arith, b .1, l), omega (arith, b .0 .0))
     by false e = (omega arith, omega arith)
 
 pub ran-fits : (base : ℕ) (list : List ℕ) (st : State) (x : Ran) (w : List ℕ) → Run.answered x w ≡ Run.runReply base list st → Fits (report (Run.stopOf (x .stop))) (x .count)
@@ -225,7 +226,7 @@ watch-fits base list st μ = by (eqb n 0) refl
     by true e =
         let b = watch-bounded (meaning base) (near-meaning base) list 0 st μ in
         let l = list-within (length list) base (length (st .window)) (st .machine .thumb) (run-within (length list) base (length (st .window)) (st .machine .thumb) (μ .words) (eqb-true n 0 e)) in
-        (omega (arith, b .1, l), omega (arith, b .0))
+        (omega (arith, b .1, l), omega (arith, b .0 .0))
     by false e = (omega arith, omega arith)
 
 pub watched-fits : (base : ℕ) (list : List ℕ) (st : State) (μ : Map) (x : Watched) (w v : List ℕ) → Watch.answered x w v ≡ watchReply base list st μ

@@ -1,4 +1,4 @@
--- `fpu::report_stop` meets its contract.
+-- `answer::report_stop` meets its contract.
 use Prim.Native.Nat.{_<_, _^_}
 use native.Mathlib.Omega.{arith}
 use mathlib.Core.Path.{subst}
@@ -6,8 +6,8 @@ use borrow.Author.Needs.{needs}
 use Rattle.run.specs.declared.Stop.{Stop}
 use Rattle.run.specs.Run.{stopOf}
 use Rattle.meaning.specs.Stop.{report}
-use Rattle.fpu.proofs.report_stop.Statement.{statement}
-use Rattle.fpu.proofs.report_stop.Tie as tie
+use Rattle.answer.proofs.report_stop.Statement.{statement}
+use Rattle.answer.proofs.report_stop.Tie as tie
 
 cast-counted : tie.Need-cast-counted
 cast-counted c = search needs

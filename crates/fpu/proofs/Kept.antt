@@ -1,0 +1,130 @@
+-- After a refusal and after 255 everything is as it came.
+use Prim.Native.Nat.{ℕ, _^_, _<_, _≤_}
+use native.Mathlib.Omega.{arith}
+use mathlib.Core.Path.{_≡_, refl, ap, sym}
+use mathlib.Core.Bool.{Bool, true, false, cond, _&&_}
+use mathlib.Core.List.{List, []}
+use lib.Dec.{eqb}
+use lib.ListN.{length, getD}
+use Rattle.machine.specs.Machine.{newMachine}
+use Rattle.machine.specs.Place.{State}
+use Rattle.meaning.specs.Map.{Map}
+use Rattle.meaning.specs.Stop.{report, refused}
+use Rattle.meaning.specs.Tree.{Tree}
+use Rattle.processing.specs.Data.{dataTree}
+use Rattle.transfers.specs.Transfer.{transferTree}
+use Rattle.memory.specs.LoadStore.{loadStoreTree}
+use Rattle.limits.specs.Limit.{windowLimit, runLimit}
+use Rattle.vfp.specs.Call.{Reply, reply, loadStoreReply}
+use Rattle.run.specs.Word.{meaning}
+use Rattle.run.specs.Run as Run
+use Rattle.watch.specs.Watch as Watch
+use Rattle.watch.specs.Watch.{limitOf, watchReply}
+use Rattle.meaning.specs.Run as R
+use Rattle.layout.specs.State.{Valid, encode}
+use Rattle.layout.specs.Marks.{validMarks}
+use Rattle.layout.proofs.Both.{fst}
+use Rattle.layout.proofs.Words.{encode-decode}
+use Rattle.layout.proofs.Bytes.{encode-decode-marks}
+use Rattle.answer.proofs.Bounds.{Near, near-data, near-transfer, near-load-store, near-meaning, plain-fine, run-bounded, watch-bounded}
+use Rattle.fpu.specs.Outcome.{outcome, reported, invalidArgument, validCall, decodedState, renewed}
+use Rattle.fpu.specs.WatchOutcome.{watchOutcome, reportedWatch, validWatch, decodedMap, watched}
+use Rattle.fpu.specs.Buffers.{Kept, KeptMarks, Refusals}
+use Rattle.fpu.proofs.Calls.{valid-call-state}
+use Rattle.fpu.proofs.Watches.{valid-watch-state}
+
+-- ---- a reply that is a refusal leaves the state
+
+tree-kept : (t : Tree) (st : State) → Near t → 100 ≤ reply t st .report .kind → reply t st .leaves ≡ st
+tree-kept t st n p = absurd (omega (arith, plain-fine t st n .1, p))
+
+access-kept : (base w : ℕ) (st : State) → 100 ≤ loadStoreReply base w st .report .kind → loadStoreReply base w st .leaves ≡ st
+access-kept base w st = by (eqb n 0)
+  where
+    n : ℕ
+    n = windowLimit base (length (st .window))
+
+    y : Bool → Reply
+    y b = cond b (reply (loadStoreTree base w) st) (record { report = report (refused n); leaves = st })
+
+    by : (b : Bool) → 100 ≤ y b .report .kind → y b .leaves ≡ st
+    by true p = tree-kept (loadStoreTree base w) st (near-load-store base w) p
+    by false p = refl
+
+run-kept : (base : ℕ) (list : List ℕ) (st : State) → 100 ≤ Run.runReply base list st .report .kind → Run.runReply base list st .leaves ≡ st
+run-kept base list st = by (eqb n 0)
+  where
+    n : ℕ
+    n = runLimit (length list) base (length (st .window)) (st .machine .thumb)
+
+    y : Bool → Run.Reply
+    y b = cond b (Run.reply (R.run (meaning base) list 0 st)) (record { report = report (refused n); count = 0; leaves = st })
+
+    by : (b : Bool) → 100 ≤ y b .report .kind → y b .leaves ≡ st
+    by true p = absurd (omega (arith, run-bounded (meaning base) (near-meaning base) list 0 st .0 .1, p))
+    by false p = refl
+
+watch-kept : (base : ℕ) (list : List ℕ) (st : State) (μ : Map) → 100 ≤ watchReply base list st μ .report .kind
+    → (watchReply base list st μ .leaves ≡ st) × (watchReply base list st μ .map ≡ μ)
+unfolding watchReply
+watch-kept base list st μ = by (eqb n 0)
+  where
+    n : ℕ
+    n = limitOf base list st μ
+
+    y : Bool → Watch.Reply
+    y b = cond b (Watch.reply (R.watch (meaning base) list 0 st μ)) (record { report = report (refused n); count = 0; leaves = st; map = μ })
+
+    by : (b : Bool) → 100 ≤ y b .report .kind → (y b .leaves ≡ st) × (y b .map ≡ μ)
+    by true p = absurd (omega (arith, watch-bounded (meaning base) (near-meaning base) list 0 st μ .0 .1, p))
+    by false p = (refl, refl)
+
+-- ---- in the buffers
+
+pub valid-marks : (l m : List ℕ) (thumb n : ℕ) → validWatch l m thumb n ≡ true → validMarks m ≡ true
+unfolding validWatch
+valid-marks l m thumb n e = fst (validMarks m) (validCall l thumb n) e
+
+module _ (l w : List ℕ) (thumb : ℕ) (a : List ℕ) (small : (n : ℕ) → getD l n 0 < 2 ^ 32) where
+  kept : (n : ℕ) (y : Reply) → (100 ≤ y .report .kind → y .leaves ≡ decodedState l w thumb)
+      → Kept l w (cond (validCall l thumb (length a)) (reported n y) (outcome invalidArgument l w a))
+  kept n y k = by (validCall l thumb (length a)) refl
+    where
+      by : (b : Bool) → validCall l thumb (length a) ≡ b → Kept l w (cond b (reported n y) (outcome invalidArgument l w a))
+      by true e p =
+          let v : Valid l = valid-call-state l thumb (length a) true (sym e) refl in
+          (rw (k p) (encode-decode (eqb thumb 1) l v (small 51)), rw (k p))
+      by false e p = (refl, refl)
+
+  kept-marks : (base : ℕ) (list m v : List ℕ) → KeptMarks l m w v (watched base list l m w v thumb a)
+  kept-marks base list m v = by (validWatch l m thumb (length a)) refl
+    where
+      y : Watch.Reply
+      y = watchReply base list (decodedState l w thumb) (decodedMap m v)
+
+      by : (b : Bool) → validWatch l m thumb (length a) ≡ b → KeptMarks l m w v (cond b (reportedWatch y) (watchOutcome invalidArgument l m w v a))
+      by true e p =
+          let k = watch-kept base list (decodedState l w thumb) (decodedMap m v) p in
+          let z : Valid l = valid-watch-state l m thumb (length a) true (sym e) refl in
+          (rw (k .0) (encode-decode (eqb thumb 1) l z (small 51)), rw (k .1) (encode-decode-marks m (valid-marks l m thumb (length a) e)), rw (k .0), rw (k .1))
+      by false e p = (refl, refl, refl, refl)
+
+kept-new : (l : List ℕ) → Kept l [] (renewed l)
+kept-new l = by (eqb (length l) 52)
+  where
+    by : (b : Bool) → Kept l [] (cond b (outcome 0 (encode newMachine) [] []) (outcome invalidArgument l [] []))
+    by true p = absurd (omega (arith, p))
+    by false p = (refl, refl)
+
+pub refusals : Refusals
+refusals l w thumb a small =
+    record {
+      renewing = kept-new l;
+      processing = λ word. kept l w thumb a small 0 (reply (dataTree (eqb thumb 1) word) (decodedState l w thumb)) (tree-kept (dataTree (eqb thumb 1) word) _ (near-data (eqb thumb 1) word));
+      transferring = λ word. kept l w thumb a small 0 (reply (transferTree (eqb thumb 1) word) (decodedState l w thumb)) (tree-kept (transferTree (eqb thumb 1) word) _ (near-transfer (eqb thumb 1) word));
+      accessing = λ base word. kept l w thumb a small 0 (loadStoreReply base word (decodedState l w thumb)) (access-kept base word (decodedState l w thumb));
+      running = λ base list.
+          let y = Run.runReply base list (decodedState l w thumb) in
+          kept l w thumb a small (y .count) (record { report = y .report; leaves = y .leaves }) (run-kept base list (decodedState l w thumb));
+      watching = kept-marks l w thumb a small;
+    }

@@ -1,0 +1,33 @@
+-- What the header promises over the buffers themselves, of the outcomes that the contracts of the exported functions name.
+use Prim.Native.Nat.{ℕ, _^_, _<_, _≤_}
+use mathlib.Core.Path.{_≡_}
+use mathlib.Core.Bool.{true}
+use mathlib.Core.List.{List, []}
+use lib.Dec.{eqb}
+use lib.ListN.{length, getD}
+use Rattle.processing.specs.Data.{dataTree}
+use Rattle.transfers.specs.Transfer.{transferTree}
+use Rattle.vfp.specs.Call.{reply, loadStoreReply}
+use Rattle.run.specs.Run.{runReply}
+use Rattle.fpu.specs.Outcome.{Outcome, called, ran, renewed}
+use Rattle.fpu.specs.WatchOutcome.{WatchOutcome, validWatch, watched}
+
+-- after a refusal, 100 and more, and after 255 the state and the window are word for word those that came
+abbrev pub Kept : List ℕ → List ℕ → Outcome → Type 0
+Kept l w x = 100 ≤ x .result → (x .words ≡ l) × (x .window ≡ w)
+
+-- and so are the marks
+abbrev pub KeptMarks : List ℕ → List ℕ → List ℕ → List ℕ → WatchOutcome → Type 0
+KeptMarks l m w v x = 100 ≤ x .result → (x .words ≡ l) × (x .marks ≡ m) × (x .window ≡ w) × (x .windowMarks ≡ v)
+
+-- each exported function keeps what came, from any words: a word is below 2^32
+pub record Keeps (l w : List ℕ) (thumb : ℕ) (a : List ℕ) : Type 0 where
+  pub renewing : Kept l [] (renewed l)
+  pub processing : (word : ℕ) → Kept l w (called (reply (dataTree (eqb thumb 1) word)) l w thumb a)
+  pub transferring : (word : ℕ) → Kept l w (called (reply (transferTree (eqb thumb 1) word)) l w thumb a)
+  pub accessing : (base word : ℕ) → Kept l w (called (loadStoreReply base word) l w thumb a)
+  pub running : (base : ℕ) (list : List ℕ) → Kept l w (ran (runReply base list) l w thumb a)
+  pub watching : (base : ℕ) (list m v : List ℕ) → KeptMarks l m w v (watched base list l m w v thumb a)
+
+abbrev pub Refusals : Type 0
+Refusals = (l w : List ℕ) (thumb : ℕ) (a : List ℕ) → ((n : ℕ) → getD l n 0 < 2 ^ 32) → Keeps l w thumb a
