@@ -3,6 +3,7 @@ pub mod Squares
 pub mod RootDigits
 pub mod Sqrt
 pub mod RootNear
+pub mod Estimate
 pub mod RootFormed
 pub mod Laws
 pub mod Sight

@@ -3,7 +3,7 @@ use mathlib.Core.Path.{_≡_, refl, sym, ap, _∙_}
 use mathlib.Core.Logic.{_⊎_, inl, inr}
 use mathlib.Core.Bool.{Bool, true, false, _&&_, cond}
 use Prim.Native.Nat.{ℕ, _+_, _-_, _*_, _/_, _%_, _^_, _≤_, _<_, Ordering·lt, Ordering·gt}
-use native.Mathlib.Nat.{le-trans, le-of-lt, lt-of-le-of-lt, lt-of-not-le, add-comm, le-of-suc-le-suc, mul-le-mul}
+use native.Mathlib.Nat.{le-refl, le-trans, lt-trans, le-of-lt, lt-of-le-of-lt, lt-of-not-le, add-comm, le-of-suc-le-suc, mul-le-mul, mul-lt-mul-of-pos-right}
 use native.Mathlib.Decide.{decLe, decLt}
 use native.Mathlib.Omega.{arith}
 use native.Mathlib.Numerals.{add-one}
@@ -109,17 +109,55 @@ found n m most more r e h p = record { is = λ (l : 0 < r). p .is l ∙ ap (λ (
 
 -- ---- what is left, of wrapped differences
 
-pub product-le : (a b m n : ℕ) → a < m → b < n → a * b ≤ m * n
-product-le a b m n h l = mul-le-mul (le-of-lt h) (le-of-lt l)
+pub product-lt : (a b m n : ℕ) → a < m → b < n → a * b < m * n
+product-lt a b m n h l = lt-of-le-of-lt (mul-le-mul (le-refl a) (le-of-lt l)) (mul-lt-mul-of-pos-right h (some b n l))
+  where
+    some : (b n : ℕ) → b < n → 0 < n
+    some b n l = omega arith
+
+-- a number whose square is at most n
+pub square-below : (q rest n m : ℕ) → q * q + rest ≡ n → n < m * m → q < m
+square-below q rest n m e h = lt-of-not-le (λ (g : m ≤ q). never (q * q) (m * m) (mul-le-mul g g) e h)
+  where
+    never : (s t : ℕ) → t ≤ s → s + rest ≡ n → n < t → ⊥
+    never s t g e h = omega arith
 
 unwrapped : (r p x : ℕ) → r < 2 ^ 63 → p < 2 ^ 63 → (r + p) % 2 ^ 64 ≡ x → r + p ≡ x
 unwrapped r p x h l e = omega arith
 
-pub short-rest : (x q rest : ℕ) → q < 2 ^ 24 → (rest + q * q) % 2 ^ 64 ≡ x → rest ≤ 5 * q + 6 → q * q + rest ≡ x
-short-rest x q rest Q e h = add-comm (q * q) rest ∙ unwrapped rest (q * q) x (few q rest Q h) (lt-of-le-of-lt (product-le q q (2 ^ 24) (2 ^ 24) Q Q) (lit< tt)) e
+pub short-rest : (x q rest : ℕ) → q < 2 ^ 26 → (rest + q * q) % 2 ^ 64 ≡ x → rest ≤ 5 * q + 6 → q * q + rest ≡ x
+short-rest x q rest Q e h = add-comm (q * q) rest ∙ unwrapped rest (q * q) x (few q rest Q h) (lt-trans (product-lt q q (2 ^ 26) (2 ^ 26) Q Q) (lit< tt)) e
   where
-    few : (q rest : ℕ) → q < 2 ^ 24 → rest ≤ 5 * q + 6 → rest < 2 ^ 63
+    few : (q rest : ℕ) → q < 2 ^ 26 → rest ≤ 5 * q + 6 → rest < 2 ^ 63
     few q rest l h = omega arith
+
+-- q's two parts, and what is left after each of the three products of its square
+module _ (x h l a b rest : ℕ) where
+  abbrev parts : ℕ
+  parts = h * 0x400_0000 + l
+
+  pub long-rest : h < 2 ^ 29 → l < 2 ^ 31 → (a + h * h) % 2 ^ 64 ≡ x → (b + 2 * h * l) % 2 ^ 64 ≡ a % 0x40_0000_0000 * 0x400_0000 → (rest + l * l) % 2 ^ 64 ≡ b % 0x40_0000_0000 * 0x400_0000
+      → a < 0x8000_0000 → b < 0x8000_0000 → rest ≤ 5 * parts + 6 → parts * parts + rest ≡ x * 2 ^ 52
+  long-rest H L ea eb er A B R =
+      together x h l a b rest
+      (unwrapped a (h * h) x (large a A) (lt-trans (product-lt h h (2 ^ 29) (2 ^ 29) H H) (lit< tt)) ea)
+      (unwrapped b (2 * h * l) (a % 0x40_0000_0000 * 0x400_0000) (large b B) (lt-trans (product-lt (2 * h) l (2 ^ 30) (2 ^ 31) (double h H) L) (lit< tt)) eb ∙ whole a A)
+      (unwrapped rest (l * l) (b % 0x40_0000_0000 * 0x400_0000) (few h l rest H L R) (lt-trans (product-lt l l (2 ^ 31) (2 ^ 31) L L) (lit< tt)) er ∙ whole b B)
+    where
+      large : (a : ℕ) → a < 0x8000_0000 → a < 2 ^ 63
+      large a h = omega arith
+
+      double : (h : ℕ) → h < 2 ^ 29 → 2 * h < 2 ^ 30
+      double h l = omega arith
+
+      whole : (a : ℕ) → a < 0x8000_0000 → a % 0x40_0000_0000 * 0x400_0000 ≡ a * 0x400_0000
+      whole a h = omega arith
+
+      few : (h l rest : ℕ) → h < 2 ^ 29 → l < 2 ^ 31 → rest ≤ 5 * (h * 0x400_0000 + l) + 6 → rest < 2 ^ 63
+      few h l rest H L R = omega arith
+
+      together : (x h l a b rest : ℕ) → a + h * h ≡ x → b + 2 * h * l ≡ a * 0x400_0000 → rest + l * l ≡ b * 0x400_0000 → (h * 0x400_0000 + l) * (h * 0x400_0000 + l) + rest ≡ x * 2 ^ 52
+      together x h l a b rest ea eb er = omega arith
 
 fst : (a b : Bool) → a && b ≡ true → a ≡ true
 fst true b e = refl
@@ -129,51 +167,8 @@ snd : (a b : Bool) → a && b ≡ true → b ≡ true
 snd true b e = e
 snd false b e = let z : _≡_ {A = ℕ} 0 1 = cc in absurd (omega arith)
 
--- q's halves of 26 digits
-module _ (q : ℕ) where
-  abbrev upper : ℕ
-  upper = q / 0x400_0000
-
-  abbrev lower : ℕ
-  lower = q % 0x400_0000
-
-  pub upper-lt : q < 2 ^ 53 → upper < 2 ^ 27
-  upper-lt h = omega arith
-
-  pub lower-lt : lower < 2 ^ 26
-  lower-lt = omega arith
-
-  halves : upper * 0x400_0000 + lower ≡ q
-  halves = omega arith
-
-pub long-rest : (x q a b rest : ℕ) → q < 2 ^ 53 → (a + upper q * upper q) % 2 ^ 64 ≡ x → (b + 2 * upper q * lower q) % 2 ^ 64 ≡ a % 0x40_0000_0000 * 0x400_0000
-    → (rest + lower q * lower q) % 2 ^ 64 ≡ b % 0x40_0000_0000 * 0x400_0000 → ltb a 0x10_0000_0000 && ltb b 0x10_0000_0000 ≡ true → rest ≤ 5 * q + 6
-    → q * q + rest ≡ x * 2 ^ 52
-long-rest x q a b rest Q ea eb er S R =
-    let H = upper-lt q Q in
-    let L = lower-lt q in
-    let A : a < 0x10_0000_0000 = ltb-true a 0x10_0000_0000 (fst (ltb a 0x10_0000_0000) (ltb b 0x10_0000_0000) S) in
-    let B : b < 0x10_0000_0000 = ltb-true b 0x10_0000_0000 (snd (ltb a 0x10_0000_0000) (ltb b 0x10_0000_0000) S) in
-    ap (λ (z : ℕ). z * z + rest) (sym (halves q))
-    ∙ together x (upper q) (lower q) a b rest
-    (unwrapped a (upper q * upper q) x (large a A) (lt-of-le-of-lt (product-le (upper q) (upper q) (2 ^ 27) (2 ^ 27) H H) (lit< tt)) ea)
-    (unwrapped b (2 * upper q * lower q) (a % 0x40_0000_0000 * 0x400_0000) (large b B) (lt-of-le-of-lt (product-le (2 * upper q) (lower q) (2 ^ 28) (2 ^ 26) (double (upper q) H) L) (lit< tt)) eb ∙ whole a A)
-    (unwrapped rest (lower q * lower q) (b % 0x40_0000_0000 * 0x400_0000) (few q rest Q R) (lt-of-le-of-lt (product-le (lower q) (lower q) (2 ^ 26) (2 ^ 26) L L) (lit< tt)) er ∙ whole b B)
-  where
-    large : (a : ℕ) → a < 0x10_0000_0000 → a < 2 ^ 63
-    large a h = omega arith
-
-    double : (h : ℕ) → h < 2 ^ 27 → 2 * h < 2 ^ 28
-    double h l = omega arith
-
-    whole : (a : ℕ) → a < 0x10_0000_0000 → a % 0x40_0000_0000 * 0x400_0000 ≡ a * 0x400_0000
-    whole a h = omega arith
-
-    few : (q rest : ℕ) → q < 2 ^ 53 → rest ≤ 5 * q + 6 → rest < 2 ^ 63
-    few q rest l h = omega arith
-
-    together : (x h l a b rest : ℕ) → a + h * h ≡ x → b + 2 * h * l ≡ a * 0x400_0000 → rest + l * l ≡ b * 0x400_0000 → (h * 0x400_0000 + l) * (h * 0x400_0000 + l) + rest ≡ x * 2 ^ 52
-    together x h l a b rest ea eb er = omega arith
+pub both-small : (a b m : ℕ) → ltb a m && ltb b m ≡ true → (a < m) × (b < m)
+both-small a b m e = (ltb-true a m (fst (ltb a m) (ltb b m) e), ltb-true b m (snd (ltb a m) (ltb b m) e))
 
 -- ---- the word, from the radicand's root
 

@@ -8,7 +8,6 @@ use rounding::lift::lift;
 use rounding::rounding::Rounded;
 use rounding::rounding::Rounding;
 use rounding::rounding::step;
-use rounding::word::bits64;
 use std::num::wrapping_sub_u64;
 
 // A root's digits so far, and what is left of the number.
@@ -129,7 +128,7 @@ fn root64(mode: Rounding, b: u64) -> u64
 // and twice that where the bit is 0, which leaves an even exponent.
 fn radicand(y: u64) -> u64
     requires { ⌜ y < 2 ^ 53 ⌝ }
-    ensures { λ r. ⌜ r ≡ radicand y ⌝ }
+    ensures { λ r. ⌜ (r ≡ radicand y) × (r < 2 ^ 54) ⌝ }
 {
     if y < 0x10_0000_0000_0000 {
         y * 2 + 0x20_0000_0000_0000
@@ -138,20 +137,43 @@ fn radicand(y: u64) -> u64
     }
 }
 
-// The first 53 digits of the root, give or take one: a guess by the bits, two steps towards 1 / root and the root, and one of Heron's.
-// It is an estimate by native floats, and no contract says how near: who uses it checks it.
-fn estimate(y: u64) -> u64
-    requires { ⌜ y < 2 ^ 53 ⌝ }
-    ensures { λ r. ⌜ (2 ^ 52 ≤ r) × (r < 2 ^ 53) ⌝ }
+// A parabola for 1 / root over an eighth of 2 to 4, or of 1 to 2. From the top: where it starts, of 32 digits, then how much it bends and how steeply it
+// starts to fall, of 16 each. It bends less than it falls.
+fn seed(part: u64) -> u64
+    ensures { λ r. ⌜ (2 ^ 63 ≤ r) × (r / 0x1_0000 % 0x1_0000 ≤ r % 0x1_0000) ⌝ }
 {
-    let pattern = y + 0x3FE0_0000_0000_0000;
-    let a = f64::from_bits(pattern);
-    let guess = f64::from_bits(0x5FE6_EB50_C7B5_37A9 - pattern / 2);
-    let z = a * guess * guess;
-    let inverse = guess * 1.48924 - guess * z * (0.99336 - z * 0.29782);
-    let near = a * inverse;
-    let root = near * (1.889881575 - near * inverse);
-    bits64(root + a / root) % 0x10_0000_0000_0000 + 0x10_0000_0000_0000
+    match part {
+        0 => 0xB504_996F_0E9B_B427,
+        1 => 0xAAAA_A3D4_0B0F_9720,
+        2 => 0xA1E8_BBEE_089B_811F,
+        3 => 0x9A5F_EB05_06DC_6FFB,
+        4 => 0x93CD_82CF_058F_624F,
+        5 => 0x8E01_2BA7_0497_5738,
+        6 => 0x88D6_D439_03D4_4E0E,
+        7 => 0x8433_0889_033F_4666,
+        8 => 0xFFFF_55CE_14A9_FEC8,
+        9 => 0xF15B_B117_0FA7_D5BC,
+        10 => 0xE4F9_2737_0C2F_B69D,
+        11 => 0xDA51_666B_09B4_9E5E,
+        12 => 0xD106_1FEF_07DD_8B09,
+        13 => 0xC8D2_F1AF_067E_7B59,
+        14 => 0xC184_E197_056E_6E66,
+        _ => 0xBAF5_13DE_0498_6390,
+    }
+}
+
+// 2 ^ 31 / root of a, nearly, where a is y's radicand / 2 ^ 52 and top the same / 2 ^ 22: 15 digits, r, by the parabola, and one of Newton's steps,
+// r * (3 - a * r * r) / 2. No contract says how near it is: who uses it checks it.
+fn inverse(y: u64, top: u64) -> u64
+    requires { ⌜ top < 2 ^ 32 ⌝ }
+    ensures { λ r. ⌜ r < 2 ^ 32 ⌝ }
+{
+    let c = seed(y / 0x2_0000_0000_0000);
+    let t = y / 0x2_0000_0000 % 0x1_0000;
+    let fall = c % 0x1_0000 * t - c / 0x1_0000 % 0x1_0000 * (t * t / 0x1_0000);
+    let r = (c / 0x1000_0000 - fall) / 0x10_0000;
+    let factor = wrapping_sub_u64(0xC000_0000_0000_0000, r * r * top);
+    r * (factor / 0x1_0000_0000) / 0x1_0000
 }
 
 fn one_if(more: bool) -> u64
@@ -162,7 +184,7 @@ fn one_if(more: bool) -> u64
 
 // The whole number nearest to the root of q * q + rest, where it is q or one of the next two. No branch: which of them it is follows no pattern.
 fn nearest_root(q: u64, rest: u64) -> u64
-    requires { ⌜ (q < 2 ^ 53) × (rest ≤ 5 * q + 6) ⌝ }
+    requires { ⌜ (q < 2 ^ 60) × (rest ≤ 5 * q + 6) ⌝ }
     ensures { λ r. ⌜ IsNearestRoot (q * q + rest) (q + 2) r ⌝ }
 {
     q + one_if(q < rest) + one_if(3 * q + 2 < rest)
@@ -173,26 +195,32 @@ fn nearest24(y: u64) -> u64
     requires { ⌜ y < 2 ^ 53 ⌝ }
     ensures { λ r. ⌜ IsNearestRoot (radicand y / 64) (2 ^ 24 + 1) r ⌝ }
 {
-    let q = (estimate(y) - 1) / 0x2000_0000;
-    let rest = wrapping_sub_u64(radicand(y) / 64, q * q);
+    let x = radicand(y);
+    let top = x / 0x40_0000;
+    let q = top * inverse(y, top) / 0x40_0000_0000;
+    let rest = wrapping_sub_u64(x / 64, q * q);
     if rest <= 5 * q + 6 {
         return nearest_root(q, rest);
     }
     0
 }
 
-// The same of 53 digits. What is left of the square is made in steps of 26 digits, each of which has to be small, so that none is cut.
+// The same of 53 digits: the first 27, h, and 26 more, l, from what h's square leaves. What is left is made in steps of 26 digits, each of which has to
+// be small, so that none is cut.
 fn nearest53(y: u64) -> u64
     requires { ⌜ y < 2 ^ 53 ⌝ }
     ensures { λ r. ⌜ IsNearestRoot (radicand y * 2 ^ 52) (2 ^ 53 + 1) r ⌝ }
 {
-    let q = estimate(y) - 1;
-    let h = q / 0x400_0000;
-    let l = q % 0x400_0000;
-    let a = wrapping_sub_u64(radicand(y), h * h);
+    let x = radicand(y);
+    let top = x / 0x40_0000;
+    let n = inverse(y, top);
+    let h = top * n / 0x8_0000_0000;
+    let a = wrapping_sub_u64(x, h * h);
+    let l = a % 0x1_0000_0000 * n / 0x1_0000_0000;
     let b = wrapping_sub_u64(a % 0x40_0000_0000 * 0x400_0000, 2 * h * l);
     let rest = wrapping_sub_u64(b % 0x40_0000_0000 * 0x400_0000, l * l);
-    if (a < 0x10_0000_0000) & (b < 0x10_0000_0000) {
+    let q = h * 0x400_0000 + l;
+    if (a < 0x8000_0000) & (b < 0x8000_0000) {
         if rest <= 5 * q + 6 {
             return nearest_root(q, rest);
         }
