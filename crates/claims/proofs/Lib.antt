@@ -1,3 +1,4 @@
 -- The claims' proofs.
 pub mod Values
 pub mod Decoding
+pub mod Window

@@ -39,4 +39,5 @@ values =
       imm8-0 = refl;
       narrowed-tie = λ v. refl;
       narrowed-least = λ v. refl;
+      narrowed-flushed = λ v. refl;
     }

@@ -30,7 +30,10 @@ memoryWords = 1 ∷ 2 ∷ 3 ∷ 4 ∷ 5 ∷ 6 ∷ []
 abbrev pub Loads : ℕ → List ℕ → ℕ → Type 0
 Loads w s r0 = loadStoreReply 0x1000 w (state (machineWith 0 [] 0x1000) memoryWords) ≡ leaving (machineWith 0 s r0) memoryWords
 
--- FPSCR: mode 10, LEN 3, stride 2 with LEN 1
+-- FPSCR: FZ, mode 10, LEN 3, stride 2 with LEN 1
+abbrev pub flushing : ℕ
+flushing = 0x100_0000
+
 abbrev pub mode10 : ℕ
 mode10 = 0x80_0000
 
@@ -74,3 +77,5 @@ pub record Values : Type 0 where
   -- FCVTSD s0, d1 with FZ 0
   pub narrowed-tie : Makes 0xEEB7_0BC1 0 (0 ∷ 0 ∷ 0x1000_0000 ∷ 0x3FF0_0000 ∷ []) 0 (0x3F80_0000 ∷ 0 ∷ 0x1000_0000 ∷ 0x3FF0_0000 ∷ [])
   pub narrowed-least : Makes 0xEEB7_0BC1 0 (0 ∷ 0 ∷ 1 ∷ 0x3690_0000 ∷ []) 0 (1 ∷ 0 ∷ 1 ∷ 0x3690_0000 ∷ [])
+  -- the second with FZ 1: the subnormal is stored as 0
+  pub narrowed-flushed : Makes 0xEEB7_0BC1 flushing (7 ∷ 0 ∷ 1 ∷ 0x3690_0000 ∷ []) flushing (0 ∷ 0 ∷ 1 ∷ 0x3690_0000 ∷ [])

@@ -6,7 +6,7 @@ use Prim.Native.Nat.{ℕ, zero, suc, _+_, _-_, _*_, _/_, _%_, _^_, _<_, _≤_}
 use native.Mathlib.Omega.{arith}
 use lib.ListN.{length, getD, set, List·getD-eq-default}
 use borrow.Author.Tests.{leb-true, leb-false, ltb-true, ltb-false}
-use Rattle.machine.specs.Window.{aligned, fromBase, beforeEnd, readAt, writtenAt, wordAt}
+use Rattle.machine.specs.Window.{aligned, fromBase, beforeEnd, inside, readAt, writtenAt, wordAt}
 
 -- by whether both tests hold
 either : {A : Type 0} (x y : Bool) (t e : A) {g : A} → (x ≡ true → y ≡ true → g ≡ t) → (x ≡ false → g ≡ e) → (x ≡ true → y ≡ false → g ≡ e) → g ≡ cond (x && y) t e
@@ -33,11 +33,15 @@ module _ (base : ℕ) (window : List ℕ) (a : ℕ) (three : base % 4 ≡ 0) (fo
   unfolding wordAt
   above h g = omega arith
 
+  -- a read of a list of one entry for each word: past its end d
+  pub entry-inside : (d : ℕ) → getD window (wordAt base a) d ≡ cond (inside base (length window) a) (getD window ((aligned a - base) / 4) d) d
+  entry-inside d =
+      either (fromBase base a) (beforeEnd base (length window) a) _ _ (λ p q. ap (λ (i : ℕ). getD window i d) (at-inside (omega (arith, leb-true, ltb-true))))
+      (λ p. List·getD-eq-default window d (below (omega (arith, leb-false, ltb-false))))
+      (λ p q. List·getD-eq-default window d (above (omega (arith, leb-true, ltb-true)) (omega (arith, leb-false, ltb-false))))
+
   pub read-inside : getD window (wordAt base a) 0 ≡ readAt base window a
-  read-inside =
-      either (fromBase base a) (beforeEnd base (length window) a) _ _ (λ p q. ap (λ (i : ℕ). getD window i 0) (at-inside (omega (arith, leb-true, ltb-true))))
-      (λ p. List·getD-eq-default window 0 (below (omega (arith, leb-false, ltb-false))))
-      (λ p q. List·getD-eq-default window 0 (above (omega (arith, leb-true, ltb-true)) (omega (arith, leb-false, ltb-false))))
+  read-inside = entry-inside 0
 
   pub write-inside : (v : ℕ) → set window (wordAt base a) v ≡ writtenAt base window a v
   write-inside v =

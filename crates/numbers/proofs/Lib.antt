@@ -7,3 +7,4 @@ pub mod Whole
 pub mod Laws
 pub mod Sight
 pub mod Values
+pub mod Correct

@@ -3,3 +3,4 @@ pub mod Arithmetic
 pub mod Compare
 pub mod Convert
 pub mod Integer
+pub mod Correct

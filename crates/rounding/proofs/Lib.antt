@@ -10,3 +10,4 @@ pub mod Lifting
 pub mod Formed
 pub mod Words
 pub mod Sight
+pub mod Correct

@@ -3,3 +3,4 @@ pub mod Flush
 pub mod Lift
 pub mod Pack
 pub mod Rounding
+pub mod Correct
