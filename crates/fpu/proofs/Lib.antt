@@ -4,3 +4,6 @@ pub mod Refused
 pub mod Runs
 pub mod Watches
 pub mod Kept
+pub mod Sizes
+pub mod Numbered
+pub mod Unshown
