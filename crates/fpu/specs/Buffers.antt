@@ -45,10 +45,11 @@ pub record Alike (x y : WatchOutcome) : Type 0 where
   pub words : Same (x .marks) (x .words) (y .words)
   pub window : Same (x .windowMarks) (x .window) (y .window)
 
--- demand 3: from two states and two windows of one size that are equal in every word that the marks call known, whatever the limits say
-abbrev pub Unshown : Type 0
-Unshown =
-    (base : ℕ) (list m v : List ℕ) (thumb : ℕ) (l l′ w w′ a a′ : List ℕ)
+-- demand 3, of the outcome x: from another state and another window of the same size that are equal in every word that the marks call known,
+-- within the limits or not
+abbrev pub Unshown : ℕ → List ℕ → List ℕ → List ℕ → List ℕ → List ℕ → ℕ → List ℕ → WatchOutcome → Type 0
+Unshown base list l m w v thumb a x =
+    (l′ w′ a′ : List ℕ)
     → validWatch l m thumb (length a) ≡ true → validWatch l′ m thumb (length a′) ≡ true → length w ≡ length w′
     → Same m l l′ → Same v w w′
-    → Alike (watched base list l m w v thumb a) (watched base list l′ m w′ v thumb a′)
+    → Alike x (watched base list l′ m w′ v thumb a′)
