@@ -22,8 +22,6 @@ use Rattle.watch.specs.Watch as Watch
 use Rattle.watch.specs.Watch.{limitOf, watchReply}
 use Rattle.meaning.specs.Run as R
 use Rattle.layout.specs.State.{Valid, encode}
-use Rattle.layout.specs.Marks.{validMarks}
-use Rattle.layout.proofs.Both.{fst}
 use Rattle.layout.proofs.Words.{encode-decode}
 use Rattle.layout.proofs.Bytes.{encode-decode-marks}
 use Rattle.answer.proofs.Bounds.{Near, near-data, near-transfer, near-load-store, near-meaning, plain-fine, run-bounded, watch-bounded}
@@ -31,7 +29,7 @@ use Rattle.fpu.specs.Outcome.{outcome, reported, invalidArgument, validC
 use Rattle.fpu.specs.WatchOutcome.{watchOutcome, reportedWatch, validWatch, decodedMap, watched}
 use Rattle.fpu.specs.Buffers.{Kept, KeptMarks, Refusals}
 use Rattle.fpu.proofs.Calls.{valid-call-state}
-use Rattle.fpu.proofs.Watches.{valid-watch-state}
+use Rattle.fpu.proofs.ValidWatch.{valid-watch-state, valid-watch-bits}
 
 -- ---- a reply that is a refusal leaves the state
 
@@ -81,10 +79,6 @@ watch-kept base list st μ = by (eqb n 0)
 
 -- ---- in the buffers
 
-pub valid-marks : (l m : List ℕ) (thumb n : ℕ) → validWatch l m thumb n ≡ true → validMarks m ≡ true
-unfolding validWatch
-valid-marks l m thumb n e = fst (validMarks m) (validCall l thumb n) e
-
 module _ (l w : List ℕ) (thumb : ℕ) (a : List ℕ) (small : (n : ℕ) → getD l n 0 < 2 ^ 32) where
   kept : (n : ℕ) (y : Reply) → (100 ≤ y .report .kind → y .leaves ≡ decodedState l w thumb)
       → Kept l w (cond (validCall l thumb (length a)) (reported n y) (outcome invalidArgument l w a))
@@ -96,7 +90,7 @@ module _ (l w : List ℕ) (thumb : ℕ) (a : List ℕ) (small : (n : ℕ) → ge
           (rw (k p) (encode-decode (eqb thumb 1) l v (small 51)), rw (k p))
       by false e p = (refl, refl)
 
-  kept-marks : (base : ℕ) (list m v : List ℕ) → KeptMarks l m w v (watched base list l m w v thumb a)
+  pub kept-marks : (base : ℕ) (list m v : List ℕ) → KeptMarks l m w v (watched base list l m w v thumb a)
   kept-marks base list m v = by (validWatch l m thumb (length a)) refl
     where
       y : Watch.Reply
@@ -106,7 +100,7 @@ module _ (l w : List ℕ) (thumb : ℕ) (a : List ℕ) (small : (n : ℕ) → ge
       by true e p =
           let k = watch-kept base list (decodedState l w thumb) (decodedMap m v) p in
           let z : Valid l = valid-watch-state l m thumb (length a) true (sym e) refl in
-          (rw (k .0) (encode-decode (eqb thumb 1) l z (small 51)), rw (k .1) (encode-decode-marks m (valid-marks l m thumb (length a) e)), rw (k .0), rw (k .1))
+          (rw (k .0) (encode-decode (eqb thumb 1) l z (small 51)), rw (k .1) (encode-decode-marks m (valid-watch-bits l m thumb (length a) true (sym e) refl)), rw (k .0), rw (k .1))
       by false e p = (refl, refl, refl, refl)
 
 kept-new : (l : List ℕ) → Kept l [] (renewed l)

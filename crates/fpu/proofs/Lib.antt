@@ -1,6 +1,10 @@
 -- From what the calls and the runs promise to what the exported functions leave.
 pub mod Calls
+pub mod ValidWatch
 pub mod Refused
 pub mod Runs
-pub mod Watches
 pub mod Kept
+pub mod Sizes
+pub mod Numbered
+pub mod Unshown
+pub mod Watches

@@ -31,3 +31,25 @@ pub record Keeps (l w : List ℕ) (thumb : ℕ) (a : List ℕ) : Type 0 where
 
 abbrev pub Refusals : Type 0
 Refusals = (l w : List ℕ) (thumb : ℕ) (a : List ℕ) → ((n : ℕ) → getD l n 0 < 2 ^ 32) → Keeps l w thumb a
+
+-- equal in every entry that the marks call known
+abbrev pub Same : List ℕ → List ℕ → List ℕ → Type 0
+Same marks x y = (n : ℕ) → getD marks n 0 ≡ 1 → getD x n 0 ≡ getD y n 0
+
+-- equal results, answers, marks and window marks, and states and windows that are equal in every word that these call known
+pub record Alike (x y : WatchOutcome) : Type 0 where
+  pub result : x .result ≡ y .result
+  pub answer : x .answer ≡ y .answer
+  pub marks : x .marks ≡ y .marks
+  pub windowMarks : x .windowMarks ≡ y .windowMarks
+  pub words : Same (x .marks) (x .words) (y .words)
+  pub window : Same (x .windowMarks) (x .window) (y .window)
+
+-- demand 3, of the outcome x: from another state and another window of the same size that are equal in every word that the marks call known,
+-- within the limits or not
+abbrev pub Unshown : ℕ → List ℕ → List ℕ → List ℕ → List ℕ → List ℕ → ℕ → List ℕ → WatchOutcome → Type 0
+Unshown base list l m w v thumb a x =
+    (l′ w′ a′ : List ℕ)
+    → validWatch l m thumb (length a) ≡ true → validWatch l′ m thumb (length a′) ≡ true → length w ≡ length w′
+    → Same m l l′ → Same v w w′
+    → Alike x (watched base list l′ m w′ v thumb a′)

@@ -2,3 +2,4 @@
 pub mod Outcome
 pub mod WatchOutcome
 pub mod Buffers
+pub mod WatchPromise

@@ -1,12 +1,10 @@
--- The outcome of the exported watched run, and demand 3 over what its buffers encode.
+-- The outcome of the exported watched run.
 use Prim.Native.Nat.{ℕ}
-use mathlib.Core.Path.{_≡_}
-use mathlib.Core.Bool.{Bool, true, cond, _&&_}
+use mathlib.Core.Bool.{Bool, cond, _&&_}
 use mathlib.Core.List.{List}
 use lib.ListN.{length}
 use Rattle.meaning.specs.Map.{Map, mapOf}
 use Rattle.watch.specs.Watch.{Reply, watchReply}
-use Rattle.watch.specs.Demand.{Promise}
 use Rattle.layout.specs.State.{encode}
 use Rattle.layout.specs.Marks.{encodeMarks, decodeMarks, validMarks}
 use Rattle.answer.specs.Answer.{answerOf}
@@ -41,12 +39,3 @@ decodedMap m v = mapOf (decodeMarks m) v
 abbrev pub watched : ℕ → List ℕ → List ℕ → List ℕ → List ℕ → List ℕ → ℕ → List ℕ → WatchOutcome
 watched base list l m w v thumb a =
     cond (validWatch l m thumb (length a)) (reportedWatch (watchReply base list (decodedState l w thumb) (decodedMap m v))) (watchOutcome invalidArgument l m w v a)
-
--- what the exported watched run promises of its outcome x: a state, marks, a window, its marks, the thumb and an answer at entry
-pub record WatchPromise (base : ℕ) (list l m w v : List ℕ) (thumb : ℕ) (a : List ℕ) (x : WatchOutcome) : Type 0 where
-  -- it is what the definition leaves, 255 and refusals included
-  pub leaves : x ≡ watched base list l m w v thumb a
-  -- and where the arguments are valid, the reply that x reports has the watched run's promise, demand 3
-  pub reply : Reply
-  pub reports : validWatch l m thumb (length a) ≡ true → x ≡ reportedWatch reply
-  pub promise : validWatch l m thumb (length a) ≡ true → Promise base list (decodedState l w thumb) (decodedMap m v) reply

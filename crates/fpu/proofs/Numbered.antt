@@ -1,0 +1,70 @@
+-- The places of what buffers encode, by their numbers: word n and mark n are those of place n.
+use Prim.Native.Nat.{ℕ, zero, suc, _+_, _-_, _/_, _%_, _^_, _<_, _≤_}
+use native.Mathlib.Omega.{arith}
+use native.Mathlib.Decide.{decLt}
+use mathlib.Core.Path.{_≡_, refl, ap, sym, _∙_, subst}
+use mathlib.Core.Bool.{Bool, true, false}
+use mathlib.Core.List.{List, [], _∷_}
+use lib.Dec.{eqb}
+use lib.ListN.{length, getD, take, drop}
+use lib.Seq.{getD-take, getD-drop, length-take-le}
+use borrow.Author.Tests.{lt-ltb, le-ltb}
+use Rattle.bits.specs.Psr.{nzcvOf, psrOf}
+use Rattle.machine.specs.Place.{Place, single, core, word, flags, control, exc, nzcv, place, before, get, state}
+use Rattle.meaning.specs.Map.{known, mapOf}
+use Rattle.layout.specs.State.{decode, Valid}
+use Rattle.layout.specs.Marks.{boolsOf, decodeMarks}
+
+-- a fact of the places before the window, by their sorts
+pub by-number : (P : ℕ → Place → Type 0) → ((n : ℕ) → n < 32 → P n (single n)) → ((n : ℕ) → n < 16 → P (32 + n) (core n)) → P 48 flags → P 49 control → P 50 exc → P 51 nzcv
+    → (n : ℕ) → n < before → P n (place n)
+unfolding place
+by-number P s r f c e z n h = by (decLt n 32) (decLt n 48) (decLt n 49) (decLt n 50) (decLt n 51)
+  where
+    by : Dec (n < 32) → Dec (n < 48) → Dec (n < 49) → Dec (n < 50) → Dec (n < 51) → P n (place n)
+    by (yes i) _ _ _ _ = rw (lt-ltb n 32 i) (s n i)
+    by (no i) (yes j) _ _ _ =
+        let q : 32 + (n - 32) ≡ n = omega arith in
+        rw (le-ltb n 32 (omega arith), lt-ltb n 48 j) (subst (λ (k : ℕ). P k (core (n - 32))) q (r (n - 32) (omega arith)))
+    by (no i) (no j) (yes k) _ _ = subst (λ (k : ℕ). P k (place k)) (let q : 48 ≡ n = omega arith in q) f
+    by (no i) (no j) (no k) (yes x) _ = subst (λ (k : ℕ). P k (place k)) (let q : 49 ≡ n = omega arith in q) c
+    by (no i) (no j) (no k) (no x) (yes y) = subst (λ (k : ℕ). P k (place k)) (let q : 50 ≡ n = omega arith in q) e
+    by (no i) (no j) (no k) (no x) (no y) = subst (λ (k : ℕ). P k (place k)) (let q : 51 ≡ n = omega arith in q) z
+
+-- a part of a list
+core-part : {A : Type 0} (l : List A) (d : A) (n : ℕ) → n < 16 → getD (take 16 (drop 32 l)) n d ≡ getD l (32 + n) d
+core-part l d n h = getD-take 16 (drop 32 l) n d h ∙ getD-drop 32 l n d
+
+-- ---- a state
+
+-- what a place holds, of its word
+abbrev pub held : Place → ℕ → ℕ
+held (single n) x = x
+held (core n) x = x
+held (word n) x = x
+held flags x = x / 2 ^ 28
+held control x = x
+held exc x = x
+held nzcv x = nzcvOf (psrOf (x / 2 ^ 28))
+
+module _ (thumb : Bool) (l w : List ℕ) (z : Valid l) where
+  pub decoded-place : (n : ℕ) → n < before → get (state (decode thumb l) w) (place n) ≡ held (place n) (getD l n 0)
+  unfolding decode
+  decoded-place =
+      by-number (λ n p. get (state (decode thumb l) w) p ≡ held p (getD l n 0)) (λ n h. getD-take 32 l n 0 h) (λ n h. core-part l 0 n h)
+      (omega (arith, z .flags-only, z .control-only)) (omega (arith, z .flags-only, z .control-only)) refl refl
+
+-- ---- marks
+
+one-bool : (m : List ℕ) (n : ℕ) → getD (boolsOf m) n false ≡ eqb (getD m n 0) 1
+unfolding boolsOf
+one-bool [] n = refl
+one-bool (x ∷ m) zero = refl
+one-bool (x ∷ m) (suc n) = one-bool m n
+
+pub decoded-mark : (m v : List ℕ) (n : ℕ) → n < before → known (mapOf (decodeMarks m) v) (place n) ≡ eqb (getD m n 0) 1
+unfolding decodeMarks
+decoded-mark m v =
+    by-number (λ n p. known (mapOf (decodeMarks m) v) p ≡ eqb (getD m n 0) 1)
+    (λ n h. one-bool (take 32 m) n ∙ ap (λ (x : ℕ). eqb x 1) (getD-take 32 m n 0 h))
+    (λ n h. one-bool (take 16 (drop 32 m)) n ∙ ap (λ (x : ℕ). eqb x 1) (core-part m 0 n h)) refl refl refl refl
