@@ -8,3 +8,4 @@ pub mod RootFormed
 pub mod Laws
 pub mod Sight
 pub mod Values
+pub mod Correct

@@ -1,2 +1,3 @@
 -- The crate's definitions: the square root, over the format. Assumes nothing.
 pub mod Root
+pub mod Correct

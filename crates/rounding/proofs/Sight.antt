@@ -1,23 +1,16 @@
--- What a reader believes at sight: the mode names the whole number that a fraction is rounded to, and no value of the format is nearer than the one that it is
--- rounded to. Assumes nothing.
-use mathlib.Core.Path.{_≡_, refl, sym, ap, _∙_, subst}
-use mathlib.Core.Logic.{inl, inr}
+-- The mode names the whole number that a fraction is rounded to. Assumes nothing.
+use mathlib.Core.Path.{_≡_, refl, sym}
 use mathlib.Core.Bool.{Bool, true, false, cond}
 use Prim.Native.Nat.{ℕ, zero, suc, _+_, _-_, _*_, _/_, _%_, _^_, _≤_, _<_, compare, Ordering, Ordering·lt, Ordering·eq, Ordering·gt}
-use native.Mathlib.Nat.{le-trans, le-of-eq, le-of-lt, lt-of-lt-of-le, lt-of-le-of-lt, mul-assoc, mul-comm, mul-pos, mul-le-mul-right, suc-mul, div-add-mod', mod-lt, div-mul-le-self}
-use native.Mathlib.Decide.{decLt}
+use native.Mathlib.Nat.{le-trans, le-of-eq, lt-of-lt-of-le, lt-of-le-of-lt, suc-mul, div-add-mod', mod-lt}
 use native.Mathlib.Omega.{arith}
 use lib.Dec.{eqb}
-use lib.Pow.{pow-add, pow-pos, pow-mono}
-use borrow.Author.Tests.{lt-ltb, le-ltb, eqb-true, eqb-false}
-use lib.Ieee.{inf, Format, prec, low, odd, nearest, hid}
-use lib.Ieee.Exact.{HasValue, odd-sign}
-use Rattle.rounding.specs.Rounding.{cutTo, limit, dropped, rounded, Floor, Ceil, Near, Names, apart, NoneNearer}
+use borrow.Author.Tests.{eqb-true, eqb-false}
+use lib.Ieee.{nearest}
+use Rattle.rounding.specs.Rounding.{cutTo, Floor, Ceil, Near, Names}
 use Rattle.rounding.specs.declared.rounding.Rounding.{Rounding}
 use Rattle.rounding.specs.declared.rounding.Rounding.the-variants.{Nearest, Up, Down, Zero}
 use Rattle.rounding.proofs.Order.{Cmp, cmp}
-use Rattle.rounding.proofs.Units.{Lead, prec-pos}
-use Rattle.rounding.proofs.Formed.{lead-digit}
 
 -- ---- the whole number that a mode names
 
@@ -75,100 +68,3 @@ module _ (a c : ℕ) (C : 0 < c) where
   cut-names Down false = floor
   cut-names Down true = ceil
   cut-names Zero s = floor
-
--- ---- the nearest value
-
--- no multiple of the unit is nearer than the one that is no further than a half
-multiples : (z u c p : ℕ) → Near z u c → apart z (c * u) ≤ apart z (p * u)
-multiples z u c p h = go (decLt p c) (decLt c p)
-  where
-    step : (a b : ℕ) → a < b → a * u + u ≤ b * u
-    step a b l = le-trans (le-of-eq (sym (suc-mul a u))) (mul-le-mul-right u l)
-
-    left : (cu pu : ℕ) → 2 * z ≤ 2 * cu + u → 2 * cu ≤ 2 * z + u → pu + u ≤ cu → apart z cu ≤ apart z pu
-    left cu pu a b l = omega arith
-
-    right : (cu pu : ℕ) → 2 * z ≤ 2 * cu + u → 2 * cu ≤ 2 * z + u → cu + u ≤ pu → apart z cu ≤ apart z pu
-    right cu pu a b l = omega arith
-
-    above : 2 * z ≤ 2 * (c * u) + u
-    above = let g : 2 * z ≤ (2 * c + 1) * u = h .0 in omega arith
-
-    below : 2 * (c * u) ≤ 2 * z + u
-    below = let g : 2 * c * u ≤ 2 * z + u = h .1 in omega arith
-
-    same : (p c : ℕ) → (p < c → ⊥) → (c < p → ⊥) → c ≡ p
-    same p c a b = omega arith
-
-    go : Dec (p < c) → Dec (c < p) → apart z (c * u) ≤ apart z (p * u)
-    go (yes l) d = left (c * u) (p * u) above below (step p c l)
-    go (no n) (yes l) = right (c * u) (p * u) above below (step c p l)
-    go (no n) (no m) = le-of-eq (ap (λ (x : ℕ). apart z (x * u)) (same p c n m))
-
-module _ (f : Format) (s : Bool) (num den : ℕ) (D : 0 < den) where
-  abbrev n : ℕ
-  n = num * 2 ^ low f
-
-  abbrev k : ℕ
-  k = dropped f (n / den)
-
-  abbrev c : ℕ
-  c = cutTo Nearest s n (den * 2 ^ k)
-
-  unit : (x : ℕ) → x * 2 ^ k * den ≡ x * (den * 2 ^ k)
-  unit x = mul-assoc x (2 ^ k) den ∙ ap (λ (y : ℕ). x * y) (mul-comm (2 ^ k) den)
-
-  -- as against any multiple of 2 ^ k
-  best : (p : ℕ) → apart n (c * 2 ^ k * den) ≤ apart n (p * 2 ^ k * den)
-  best p =
-      le-trans (le-of-eq (ap (apart n) (unit c)))
-      (le-trans (multiples n (den * 2 ^ k) c p (cut-names n (den * 2 ^ k) (mul-pos D (pow-pos k)) Nearest s)) (le-of-eq (ap (apart n) (sym (unit p)))))
-
-  -- a value of fewer digits lies at or below hid * 2 ^ k, and that lies at or below the fraction
-  small : (q j : ℕ) → q < 2 ^ prec f → j < k → (q * 2 ^ j * den ≤ hid f * 2 ^ k * den) × (hid f * 2 ^ k * den ≤ n)
-  small q j h l = (
-    mul-le-mul-right den (le-trans (mul-le-mul-right (2 ^ j) (le-of-lt h))
-        (le-trans (le-of-eq (sym (pow-add 2 (prec f) j))) (le-trans (pow-mono (fewer (prec f) j k (prec-pos f) l)) (le-of-eq (pow-add 2 (prec f - 1) k))))),
-    le-trans (mul-le-mul-right den (reaches (lead-digit f (n / den)))) (div-mul-le-self n den),
-  )
-    where
-      fewer : (p j k : ℕ) → 0 < p → j < k → p + j ≤ p - 1 + k
-      fewer p j k P l = omega arith
-
-      some : (j k : ℕ) → j < k → k ≡ 0 → ⊥
-      some j k l z = omega arith
-
-      reaches : Lead f k (n / den / 2 ^ k) → hid f * 2 ^ k ≤ n / den
-      reaches (inl z) = absurd (some j k l z)
-      reaches (inr g) = le-trans (mul-le-mul-right (2 ^ k) g) (div-mul-le-self (n / den) (2 ^ k))
-
-  -- no value of the format is nearer to num / den
-  none-nearer : NoneNearer f num den (c * 2 ^ k)
-  none-nearer q j h = go (decLt j k)
-    where
-      closer : (n x y : ℕ) → x ≤ y → y ≤ n → apart n y ≤ apart n x
-      closer n x y a b = omega arith
-
-      join : (j k : ℕ) → (j < k → ⊥) → j - k + k ≡ j
-      join j k m = omega arith
-
-      go : Dec (j < k) → apart n (c * 2 ^ k * den) ≤ apart n (q * 2 ^ j * den)
-      go (yes l) = le-trans (best (hid f)) (closer n (q * 2 ^ j * den) (hid f * 2 ^ k * den) (small q j h l .0) (small q j h l .1))
-      go (no m) =
-          le-trans (best (q * 2 ^ (j - k)))
-          (le-of-eq (ap (λ (x : ℕ). apart n (x * den)) (mul-assoc q (2 ^ (j - k)) (2 ^ k) ∙ ap (λ (x : ℕ). q * x) (sym (pow-add 2 (j - k) k) ∙ ap (λ (x : ℕ). 2 ^ x) (join j k m)))))
-
-  -- where it is not too large, that many smallest values are what `rounded` gives, and else an infinity
-  rounded-value : c * 2 ^ k < limit f → HasValue (rounded Nearest f s num den) s (c * 2 ^ k) (2 ^ low f)
-  unfolding rounded
-  rounded-value h =
-      subst (λ (b : Bool). HasValue (cond b (odd (suc (prec f)) s c k (low f)) (inf s)) s (c * 2 ^ k) (2 ^ low f)) (sym (lt-ltb (c * 2 ^ k) (limit f) h)) (odd-sign (suc (prec f)) s c k (low f))
-
-  rounded-large : limit f ≤ c * 2 ^ k → rounded Nearest f s num den ≡ inf s
-  unfolding rounded
-  rounded-large h = ap (λ (b : Bool). cond b (odd (suc (prec f)) s c k (low f)) (inf s)) (le-ltb (c * 2 ^ k) (limit f) h)
-
--- num / den is rounded to the nearest value of the format, or to an infinity where that is too large
-pub nearest-value : (f : Format) (s : Bool) (num den : ℕ) → 0 < den
-    → (r : ℕ) × NoneNearer f num den r × (r < limit f → HasValue (rounded Nearest f s num den) s r (2 ^ low f)) × (limit f ≤ r → rounded Nearest f s num den ≡ inf s)
-nearest-value f s num den D = (c f s num den D * 2 ^ k f s num den D, none-nearer f s num den D, rounded-value f s num den D, rounded-large f s num den D)

@@ -111,7 +111,3 @@ Names Zero s a c q = Floor a c q
 -- how far two numbers are from each other
 abbrev pub apart : ℕ → ℕ → ℕ
 apart a b = (a - b) + (b - a)
-
--- Of all values of the format none is nearer to num / den than r of its smallest values. A value is q * 2 ^ j of them, q having at most `prec` digits.
-abbrev pub NoneNearer : Format → ℕ → ℕ → ℕ → Type 0
-NoneNearer f num den r = (q j : ℕ) → q < 2 ^ prec f → apart (num * 2 ^ low f) (r * den) ≤ apart (num * 2 ^ low f) (q * 2 ^ j * den)
