@@ -28,8 +28,10 @@ use Rattle.numbers.specs.Integer.{integerValue, fromInteger}
 use Rattle.numbers.specs.Correct.{sumSize, sumSign, negative, magnitude, Correct}
 use Rattle.numbers.specs.declared.arithmetic.Arithmetic.{Arithmetic}
 use Rattle.numbers.specs.declared.arithmetic.Arithmetic.the-variants.{MultiplyAccumulate, MultiplySubtract, NegateMultiplySubtract, NegateMultiplyAccumulate, Multiply, NegateMultiply, Add, Subtract, Divide}
+use Rattle.numbers.proofs.Applying.{kept}
 use Rattle.numbers.proofs.Narrow.{narrowed-value}
 use Rattle.numbers.proofs.Sight.{to-integer-names}
+use Rattle.numbers.proofs.Whole.{widened-value}
 
 -- what equals `round` of a fraction
 correct : (f : Format) (s : Bool) (num den : ℕ) (v : Float) → 0 < den → v ≡ round f s num den → CorrectlyRounded Nearest f s (ratio num den) (toBits f v)
@@ -287,9 +289,11 @@ numbers-correct =
       products = λ f x y s t a b c d C D h k. correct f (unlike s t) (a * b) (c * d) (mul f x y) (mul-pos C D) (mul-of f x y s t a b c d C D h k);
       quotients = λ f x y s t a b c d C D B h k. correct f (unlike s t) (a * d) (c * b) (div f x y) (mul-pos C B) (div-of f x y s t a b c d C D B h k);
       word-of-value = word-of-value;
+      stored-as-it-is = kept;
       from-integer = from-integer;
       to-double-exact = to-double-exact;
       narrowing = narrowing;
       double-to-single = double-to-single;
+      single-to-double = widened-value;
       to-integer = to-integer-names;
     }
