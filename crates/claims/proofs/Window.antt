@@ -1,6 +1,5 @@
 -- The window's claims, from the laws `entry-inside` and `write-inside` of crate machine. Assumes nothing.
 use mathlib.Core.Path.{_≡_, refl, sym, ap, _∙_, subst}
-use mathlib.Core.Logic.{_⊎_, inl, inr}
 use mathlib.Core.Bool.{Bool, true, false, cond}
 use mathlib.Core.List.{List}
 use Prim.Native.Nat.{ℕ, zero, suc, _+_, _-_, _*_, _/_, _%_, _^_, _≤_, _<_}
@@ -13,7 +12,7 @@ use Rattle.bits.specs.Field.{field, bitOf}
 use Rattle.bits.specs.Psr.{oneOf}
 use Rattle.machine.specs.Registers.{regOf}
 use Rattle.machine.specs.Window.{aligned, inside, readAt, writtenAt, wordAt}
-use Rattle.machine.specs.Place.{State, state, core, word, sWord, lowWord, highWord, get, put}
+use Rattle.machine.specs.Place.{State, state, core, sWord, lowWord, highWord, get, put}
 use Rattle.machine.proofs.Inside.{entry-inside, read-inside, write-inside}
 use Rattle.meaning.specs.Map.{Map, mapOf, known, mark}
 use Rattle.meaning.specs.Step.{step, after, stepMarks}

@@ -1,20 +1,18 @@
 -- The arithmetic and the conversions are correctly rounded: each is `rounded` of its exact result. Assumes nothing.
 use mathlib.Core.Path.{_≡_, refl, sym, ap, _∙_, subst}
 use mathlib.Core.Bool.{Bool, true, false, not, Bool·beq, _&&_, _||_, cond}
-use Prim.Native.Nat.{ℕ, zero, suc, _+_, _-_, _*_, _/_, _%_, _^_, _≤_, _<_}
-use native.Mathlib.Nat.{le-trans, le-of-eq, le-of-lt, lt-of-lt-of-le, lt-of-le-of-lt, le-of-suc-le-suc, lt-of-not-le, mul-comm, mul-mul-mul-comm, mul-right-comm, mul-pos, zero-mul, add-mul, mul-lt-mul-of-pos-right, lt-of-mul-lt-mul-right, mul-le-mul-right}
+use Prim.Native.Nat.{ℕ, _+_, _-_, _*_, _/_, _%_, _^_, _≤_, _<_}
+use native.Mathlib.Nat.{le-of-eq, le-of-lt, lt-of-lt-of-le, lt-of-le-of-lt, le-of-suc-le-suc, lt-of-not-le, mul-comm, mul-mul-mul-comm, mul-pos, zero-mul, add-mul, mul-lt-mul-of-pos-right, lt-of-mul-lt-mul-right, mul-le-mul-right}
 use native.Mathlib.Decide.{decLt}
 use native.Mathlib.Omega.{arith}
-use lib.Dec.{T, leb, ltb, eqb, lit<, lit≤}
+use lib.Dec.{ltb, eqb, lit<}
 use borrow.Author.Tests.{lt-ltb, le-ltb, ltb-true, ltb-false, ne-eqb}
-use lib.IntN.{ℤ}
 use lib.Ieee.{Float, nan, inf, fin, Format, binary32, binary64, up, down, unlike, round, sum, add, sub, mul, div, neg, isNan, nanBits, ofBits, toBits}
 use lib.Ieee.Back.{round-whole}
 use lib.Ieee.Bits.{ofBits-toBits, nanBits-is}
 use lib.Ieee.Fits.{round-fits, down-pos, up-pos}
 use lib.Ieee.Exact.{HasValue}
 use lib.Ieee.Scale.{round-same}
-use Rattle.rounding.specs.Flush.{flush}
 use Rattle.rounding.specs.Rounding.{rounded, apart}
 use Rattle.rounding.specs.Correct.{ratio, CorrectlyRounded}
 use Rattle.rounding.specs.declared.rounding.Rounding.{Rounding}
@@ -22,14 +20,16 @@ use Rattle.rounding.specs.declared.rounding.Rounding.the-variants.{Nearest}
 use Rattle.rounding.proofs.Correct.{rounded-correct}
 use Rattle.rounding.proofs.Flushing.{flush-off}
 use Rattle.rounding.proofs.Written.{rounded-nearest}
-use Rattle.numbers.specs.Arithmetic.{apply, accumulates, defaultNan, anyNan, applied}
+use Rattle.numbers.specs.Arithmetic.{apply, accumulates, defaultNan, applied}
 use Rattle.numbers.specs.Convert.{narrowed, narrow}
 use Rattle.numbers.specs.Integer.{integerValue, fromInteger}
 use Rattle.numbers.specs.Correct.{sumSize, sumSign, negative, magnitude, Correct}
 use Rattle.numbers.specs.declared.arithmetic.Arithmetic.{Arithmetic}
 use Rattle.numbers.specs.declared.arithmetic.Arithmetic.the-variants.{MultiplyAccumulate, MultiplySubtract, NegateMultiplySubtract, NegateMultiplyAccumulate, Multiply, NegateMultiply, Add, Subtract, Divide}
+use Rattle.numbers.proofs.Applying.{kept}
 use Rattle.numbers.proofs.Narrow.{narrowed-value}
 use Rattle.numbers.proofs.Sight.{to-integer-names}
+use Rattle.numbers.proofs.Whole.{widened-value}
 
 -- what equals `round` of a fraction
 correct : (f : Format) (s : Bool) (num den : ℕ) (v : Float) → 0 < den → v ≡ round f s num den → CorrectlyRounded Nearest f s (ratio num den) (toBits f v)
@@ -287,9 +287,11 @@ numbers-correct =
       products = λ f x y s t a b c d C D h k. correct f (unlike s t) (a * b) (c * d) (mul f x y) (mul-pos C D) (mul-of f x y s t a b c d C D h k);
       quotients = λ f x y s t a b c d C D B h k. correct f (unlike s t) (a * d) (c * b) (div f x y) (mul-pos C B) (div-of f x y s t a b c d C D B h k);
       word-of-value = word-of-value;
+      stored-as-it-is = kept;
       from-integer = from-integer;
       to-double-exact = to-double-exact;
       narrowing = narrowing;
       double-to-single = double-to-single;
+      single-to-double = widened-value;
       to-integer = to-integer-names;
     }

@@ -9,8 +9,8 @@ use Rattle.rounding.specs.Rounding.{cutTo, Names, apart}
 use Rattle.rounding.specs.Correct.{ratio, CorrectlyRounded}
 use Rattle.rounding.specs.declared.rounding.Rounding.{Rounding}
 use Rattle.rounding.specs.declared.rounding.Rounding.the-variants.{Nearest}
-use Rattle.numbers.specs.Arithmetic.{apply, applied}
-use Rattle.numbers.specs.Convert.{narrowed, narrow}
+use Rattle.numbers.specs.Arithmetic.{apply, applied, arithmetic}
+use Rattle.numbers.specs.Convert.{narrowed, narrow, widen}
 use Rattle.numbers.specs.Integer.{fromInteger, clamped, toInteger}
 use Rattle.numbers.specs.declared.arithmetic.Arithmetic.{Arithmetic}
 
@@ -40,6 +40,8 @@ pub record Correct : Type 0 where
       → CorrectlyRounded Nearest f (unlike s t) (ratio (a * d) (c * b)) (toBits f (div f x y))
   -- a result's word is that of its value: where an operand is a NaN, the default NaN's
   pub word-of-value : (f : Format) (kind : Arithmetic) (n m d : ℕ) → applied f kind n m d ≡ toBits f (apply f kind (ofBits f n) (ofBits f m) (ofBits f d))
+  -- and with FZ clear it is what is stored
+  pub stored-as-it-is : (f : Format) (control : ℕ) (kind : Arithmetic) (n m d : ℕ) → control / 2 ^ 24 % 2 ≡ 0 → arithmetic f control kind n m d ≡ applied f kind n m d
   -- an integer to either format, and to a double exactly
   pub from-integer : (f : Format) (signed : Bool) (w : ℕ) → CorrectlyRounded Nearest f (negative signed w) (ratio (magnitude signed w) 1) (fromInteger f signed w)
   pub to-double-exact : (signed : Bool) (w : ℕ) → w < 2 ^ 32 → HasValue (ofBits binary64 (fromInteger binary64 signed w)) (negative signed w) (magnitude signed w) 1
@@ -48,6 +50,8 @@ pub record Correct : Type 0 where
       → CorrectlyRounded mode f s (ratio a c) (toBits f (narrowed mode f x))
   pub double-to-single : (control b : ℕ) (s : Bool) (a c : ℕ) → 0 < c → control / 2 ^ 24 % 2 ≡ 0 → HasValue (ofBits binary64 b) s a c
       → CorrectlyRounded Nearest binary32 s (ratio a c) (narrow control b)
+  -- a single to a double is the same value
+  pub single-to-double : (b : ℕ) → ofBits binary64 (widen b) ≡ ofBits binary32 b
   -- to an integer: the whole number that the mode names, brought into the range
   pub to-integer : (f : Format) (mode : Rounding) (signed : Bool) (b : ℕ) (s : Bool) (a c : ℕ) → 0 < c → HasValue (ofBits f b) s a c
       → (toInteger f mode signed b ≡ clamped signed s (cutTo mode s a c)) × Names mode s a c (cutTo mode s a c)

@@ -4,24 +4,23 @@ use mathlib.Core.Path.{_≡_, refl, sym, ap, _∙_, subst}
 use mathlib.Core.Logic.{_⊎_, inl, inr}
 use mathlib.Core.Bool.{Bool, true, false, cond}
 use Prim.Native.Nat.{ℕ, zero, suc, _+_, _-_, _*_, _/_, _%_, _^_, _≤_, _<_, compare, Ordering}
-use native.Mathlib.Nat.{le-trans, le-of-eq, le-of-lt, lt-of-lt-of-le, lt-of-le-of-lt, le-antisymm, not-le-of-lt, lt-of-not-le, le-of-suc-le-suc, mul-assoc, mul-comm, mul-right-comm, mul-mul-mul-comm, mul-pos, mul-le-mul, mul-le-mul-right, mul-lt-mul-of-pos-right, le-of-mul-le-mul-right, zero-mul, div-mul-le-self, div-lt-iff-lt-mul, le-div-iff-mul-le}
+use native.Mathlib.Nat.{le-trans, le-of-eq, le-of-lt, lt-of-lt-of-le, le-antisymm, not-le-of-lt, lt-of-not-le, le-of-suc-le-suc, mul-assoc, mul-comm, mul-right-comm, mul-mul-mul-comm, mul-pos, mul-le-mul, mul-le-mul-right, mul-lt-mul-of-pos-right, le-of-mul-le-mul-right, zero-mul, div-mul-le-self, div-lt-iff-lt-mul}
 use native.Mathlib.Omega.{arith}
 use lib.Dec.{eqb, isEq}
 use lib.Pow.{pow-add, pow-pos}
 use borrow.Author.Tests.{eqb-true, eqb-false}
-use lib.Ieee.{Float, nan, inf, fin, Format, prec, low, up, down, hid, ofBits, toBits}
+use lib.Ieee.{Float, nan, inf, fin, Format, low, up, down, hid, ofBits, toBits}
 use lib.Ieee.Fits.{down-pos}
 use lib.Ieee.Exact.{HasValue}
 use lib.Ieee.Nearest.{div-same}
 use Rattle.rounding.specs.Rounding.{move, settled, dropped}
-use Rattle.rounding.specs.Correct.{Real, root, AtMost, AtLeast, Each, NearestEven, LargestNotAbove, LeastNotBelow, Named, CorrectlyRounded}
+use Rattle.rounding.specs.Correct.{Real, root, AtMost, AtLeast, NearestEven, LargestNotAbove, LeastNotBelow, Named, CorrectlyRounded}
 use Rattle.rounding.specs.declared.rounding.Rounding.{Rounding}
 use Rattle.rounding.specs.declared.rounding.Rounding.the-variants.{Nearest, Up, Down, Zero}
 use Rattle.rounding.proofs.Order.{compare-scale}
-use Rattle.rounding.proofs.Units.{Lead}
 use Rattle.rounding.proofs.Correct.{from-below, from-above, evens, not-more, not-less, settled-correct, settled-even}
 use Rattle.rounding.proofs.Formed.{lead-digit}
-use Rattle.roots.specs.Root.{isqrt, rootCut, rootOf, sqrtOf, squareRoot, NearRoot}
+use Rattle.roots.specs.Root.{isqrt, rootCut, rootOf, sqrtOf, NearRoot}
 use Rattle.roots.specs.Correct.{Correct}
 use Rattle.roots.proofs.RootFormed.{root-k, root-c, root-word}
 use Rattle.roots.proofs.Squares.{is-root}

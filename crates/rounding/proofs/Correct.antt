@@ -2,24 +2,24 @@
 -- mode and the format. Assumes nothing.
 use mathlib.Core.Path.{_≡_, refl, sym, ap, _∙_, subst}
 use mathlib.Core.Logic.{_⊎_, inl, inr}
-use mathlib.Core.Bool.{Bool, true, false, not, cond}
-use Prim.Native.Nat.{ℕ, zero, suc, _+_, _-_, _*_, _/_, _%_, _^_, _≤_, _<_, min}
-use native.Mathlib.Nat.{le-trans, le-of-eq, le-of-lt, lt-of-le-of-lt, le-antisymm, eq-or-lt-of-le, not-le-of-lt, lt-of-not-le, le-of-suc-le-suc, mul-assoc, mul-comm, mul-right-comm, one-mul, mul-pos, mul-le-mul-right, le-of-mul-le-mul-right, suc-mul, div-mul-le-self, div-div-eq-div-mul}
+use mathlib.Core.Bool.{Bool, true, false, cond}
+use Prim.Native.Nat.{ℕ, suc, _+_, _-_, _*_, _/_, _%_, _^_, _≤_, _<_}
+use native.Mathlib.Nat.{le-trans, le-of-eq, le-of-lt, lt-of-le-of-lt, le-antisymm, eq-or-lt-of-le, not-le-of-lt, lt-of-not-le, le-of-suc-le-suc, mul-assoc, one-mul, mul-pos, mul-le-mul-right, le-of-mul-le-mul-right, suc-mul, div-mul-le-self, div-div-eq-div-mul}
 use native.Mathlib.Decide.{decLt}
 use native.Mathlib.Omega.{arith}
-use lib.Dec.{T, ltb, ltb→lt, nltb→le, lit<}
+use lib.Dec.{T, ltb, ltb→lt, lit<}
 use lib.Pow.{pow-add, pow-pos, pow-mono, pow-lt}
 use borrow.Author.Tests.{lt-ltb, le-ltb}
-use lib.Ieee.{Float, inf, Format, binary32, binary64, prec, emax, low, odd, hid, ones, top, fits, ofBits, toBits}
+use lib.Ieee.{Float, Format, binary32, binary64, prec, low, odd, hid, fits, ofBits, toBits}
 use lib.Ieee.Bits.{ofBits-toBits}
 use lib.Ieee.Fits.{odd-fits, inf-fits, kept-lt}
 use lib.Ieee.Exact.{HasValue, odd-sign}
 use Rattle.rounding.specs.Rounding.{cutTo, largest, limit, beyond, settled, dropped, rounded, Near, Floor, Ceil, Names}
 use Rattle.rounding.specs.Pack.{packed}
-use Rattle.rounding.specs.Correct.{Real, ratio, root, AtMost, AtLeast, Each, NearestEven, LargestNotAbove, LeastNotBelow, Named, CorrectlyRounded}
+use Rattle.rounding.specs.Correct.{Real, ratio, AtMost, AtLeast, Each, NearestEven, LargestNotAbove, LeastNotBelow, Named, CorrectlyRounded}
 use Rattle.rounding.specs.declared.rounding.Rounding.{Rounding}
 use Rattle.rounding.specs.declared.rounding.Rounding.the-variants.{Nearest, Up, Down, Zero}
-use Rattle.rounding.proofs.Units.{Lead, prec-pos, twice-hid, hid-pos}
+use Rattle.rounding.proofs.Units.{Lead, prec-pos}
 use Rattle.rounding.proofs.Cutting.{move-ge, move-le}
 use Rattle.rounding.proofs.Written.{settled-bits}
 use Rattle.rounding.proofs.Formed.{lead-digit}
