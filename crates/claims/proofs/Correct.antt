@@ -1,7 +1,7 @@
 -- The claim of correct rounding, gathered from the crates that prove it. Assumes nothing.
-use Rattle.rounding.proofs.Correct.{rounded-correct}
-use Rattle.numbers.proofs.Correct.{numbers-correct}
-use Rattle.roots.proofs.Correct.{roots-correct}
+use Rattle.correct_rounding.proofs.Rounded.{rounded-correct}
+use Rattle.correct_rounding.proofs.Operations.{numbers-correct}
+use Rattle.correct_rounding.proofs.Roots.{roots-correct}
 use Rattle.claims.specs.Correct.{Correct}
 
 pub correct : Correct

@@ -123,15 +123,15 @@ acts f base w st e = rw e
 call : (f : Format) (base w : ℕ) (st : State) → windowLimit base (length (st .window)) ≡ 0 → field w 8 11 ≡ coprocessor f → eqb (field w 21 27) 0b110_0010 ≡ false
     → loadStoreReply base w st
     ≡ record {
-      says = report finished;
+      report = report finished;
       leaves =
           step (writeBack w)
           (transferred f (bitOf w 20) base (regOf f (field w 12 15) (field w 22 22)) (startOf w (get st (core (field w 16 19)))) (countOf f w) st);
     }
 call f base w st lim e p =
-    ap (λ (n : ℕ). cond (eqb n 0) (reply (loadStoreTree base w) st) (record { says = report (refused n); leaves = st })) lim
+    ap (λ (n : ℕ). cond (eqb n 0) (reply (loadStoreTree base w) st) (record { report = report (refused n); leaves = st })) lim
     ∙ ap (λ (t : Tree). reply t st) (tree f base w e)
-    ∙ ap (λ (o : Out). record { says = report (exitOf (o .next)); leaves = o .st }) (acts f base w st p ∙ gone)
+    ∙ ap (λ (o : Out). record { report = report (exitOf (o .next)); leaves = o .st }) (acts f base w st p ∙ gone)
   where
     gone : plain (go (accessAct f base w (get st (core (field w 16 19))))) st
         ≡ out (step (writeBack w) (transferred f (bitOf w 20) base (regOf f (field w 12 15) (field w 22 22)) (startOf w (get st (core (field w 16 19)))) (countOf f w) st)) on

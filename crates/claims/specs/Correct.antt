@@ -1,12 +1,12 @@
--- Every number that the unit works out is correctly rounded, in the sense of `CorrectlyRounded` (crate rounding).
+-- Every number that the unit works out is correctly rounded, in the sense of `CorrectlyRounded` (crate correct_rounding).
 use Prim.Native.Nat.{ℕ, _<_}
 use mathlib.Core.Bool.{Bool}
 use lib.Ieee.{Format, toBits}
 use Rattle.rounding.specs.Rounding.{rounded}
-use Rattle.rounding.specs.Correct.{ratio, CorrectlyRounded}
+use Rattle.correct_rounding.specs.Rounded.{ratio, CorrectlyRounded}
 use Rattle.rounding.specs.declared.rounding.Rounding.{Rounding}
-use Rattle.numbers.specs.Correct as N
-use Rattle.roots.specs.Correct as R
+use Rattle.correct_rounding.specs.Operations as N
+use Rattle.correct_rounding.specs.Roots as R
 
 pub record Correct : Type 0 where
   -- rounding itself, in every mode

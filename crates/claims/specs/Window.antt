@@ -61,7 +61,7 @@ pub record Window : Type 0 where
   pub call : (f : Format) (base w : ℕ) (st : State) → windowLimit base (length (st .window)) ≡ 0 → field w 8 11 ≡ coprocessor f → eqb (field w 21 27) 0b110_0010 ≡ false
       → loadStoreReply base w st
       ≡ record {
-        says = report finished;
+        report = report finished;
         leaves =
             step (writeBack w)
             (transferred f (bitOf w 20) base (regOf f (field w 12 15) (field w 22 22)) (startOf w (get st (core (field w 16 19)))) (countOf f w) st);

@@ -7,4 +7,3 @@ pub mod Whole
 pub mod Laws
 pub mod Sight
 pub mod Values
-pub mod Correct

@@ -3,4 +3,3 @@ pub mod Arithmetic
 pub mod Compare
 pub mod Convert
 pub mod Integer
-pub mod Correct

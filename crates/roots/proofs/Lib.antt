@@ -8,4 +8,3 @@ pub mod RootFormed
 pub mod Laws
 pub mod Sight
 pub mod Values
-pub mod Correct

@@ -1,3 +1,2 @@
 -- The crate's definitions: the square root, over the format. Assumes nothing.
 pub mod Root
-pub mod Correct

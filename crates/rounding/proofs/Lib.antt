@@ -10,4 +10,3 @@ pub mod Lifting
 pub mod Formed
 pub mod Words
 pub mod Sight
-pub mod Correct

@@ -3,4 +3,3 @@ pub mod Flush
 pub mod Lift
 pub mod Pack
 pub mod Rounding
-pub mod Correct

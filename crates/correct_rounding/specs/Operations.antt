@@ -6,13 +6,13 @@ use lib.Dec.{leb, ltb}
 use lib.Ieee.{Float, Format, binary32, binary64, unlike, add, sub, mul, div, ofBits, toBits}
 use lib.Ieee.Exact.{HasValue}
 use Rattle.rounding.specs.Rounding.{cutTo, Names, apart}
-use Rattle.rounding.specs.Correct.{ratio, CorrectlyRounded}
+use Rattle.correct_rounding.specs.Rounded.{ratio, CorrectlyRounded}
 use Rattle.rounding.specs.declared.rounding.Rounding.{Rounding}
 use Rattle.rounding.specs.declared.rounding.Rounding.the-variants.{Nearest}
 use Rattle.numbers.specs.Arithmetic.{apply, applied, arithmetic}
 use Rattle.numbers.specs.Convert.{narrowed, narrow, widen}
 use Rattle.numbers.specs.Integer.{fromInteger, clamped, toInteger}
 use Rattle.numbers.specs.declared.arithmetic.Arithmetic.{Arithmetic}
 
 -- ±a + ±b: its size, and its sign, where an exact zero is negative only if both are
 abbrev pub sumSize : Bool → ℕ → Bool → ℕ → ℕ

@@ -14,18 +14,18 @@ use lib.Ieee.Fits.{down-pos}
 use lib.Ieee.Exact.{HasValue}
 use lib.Ieee.Nearest.{div-same}
 use Rattle.rounding.specs.Rounding.{move, settled, dropped}
-use Rattle.rounding.specs.Correct.{Real, root, AtMost, AtLeast, NearestEven, LargestNotAbove, LeastNotBelow, Named, CorrectlyRounded}
+use Rattle.correct_rounding.specs.Rounded.{Real, root, AtMost, AtLeast, NearestEven, LargestNotAbove, LeastNotBelow, Named, CorrectlyRounded}
 use Rattle.rounding.specs.declared.rounding.Rounding.{Rounding}
 use Rattle.rounding.specs.declared.rounding.Rounding.the-variants.{Nearest, Up, Down, Zero}
 use Rattle.rounding.proofs.Order.{compare-scale}
-use Rattle.rounding.proofs.Correct.{from-below, from-above, evens, not-more, not-less, settled-correct, settled-even}
+use Rattle.correct_rounding.proofs.Rounded.{from-below, from-above, evens, not-more, not-less, settled-correct, settled-even}
 use Rattle.rounding.proofs.Formed.{lead-digit}
 use Rattle.roots.specs.Root.{isqrt, rootCut, rootOf, sqrtOf, NearRoot}
-use Rattle.roots.specs.Correct.{Correct}
+use Rattle.correct_rounding.specs.Roots.{Correct}
 use Rattle.roots.proofs.RootFormed.{root-k, root-c, root-word}
 use Rattle.roots.proofs.Squares.{is-root}
 use Rattle.roots.proofs.Laws.{root-unflushed}
 use Rattle.roots.proofs.Sight.{root-near}
 
 -- ---- equal fractions have the same rounded root
 

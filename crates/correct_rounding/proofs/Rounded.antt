@@ -14,16 +14,16 @@ use lib.Ieee.{Float, Format, binary32, binary64, prec, low, odd, hid, fits, ofBi
 use lib.Ieee.Bits.{ofBits-toBits}
 use lib.Ieee.Fits.{odd-fits, inf-fits, kept-lt}
 use lib.Ieee.Exact.{HasValue, odd-sign}
 use Rattle.rounding.specs.Rounding.{cutTo, largest, limit, beyond, settled, dropped, rounded, Near, Floor, Ceil, Names}
 use Rattle.rounding.specs.Pack.{packed}
-use Rattle.rounding.specs.Correct.{Real, ratio, AtMost, AtLeast, Each, NearestEven, LargestNotAbove, LeastNotBelow, Named, CorrectlyRounded}
+use Rattle.correct_rounding.specs.Rounded.{Real, ratio, AtMost, AtLeast, Each, NearestEven, LargestNotAbove, LeastNotBelow, Named, CorrectlyRounded}
 use Rattle.rounding.specs.declared.rounding.Rounding.{Rounding}
 use Rattle.rounding.specs.declared.rounding.Rounding.the-variants.{Nearest, Up, Down, Zero}
 use Rattle.rounding.proofs.Units.{Lead, prec-pos}
 use Rattle.rounding.proofs.Cutting.{move-ge, move-le}
 use Rattle.rounding.proofs.Written.{settled-bits}
 use Rattle.rounding.proofs.Formed.{lead-digit}
 use Rattle.rounding.proofs.Sight.{cut-names}
 
 -- ---- c * 2 ^ k against every value. L h: h halves are at most the number; U h: at least
 

@@ -3,10 +3,10 @@ use Prim.Native.Nat.{ℕ, _<_}
 use mathlib.Core.Bool.{false}
 use lib.Ieee.{Float, Format, ofBits, toBits}
 use lib.Ieee.Exact.{HasValue}
-use Rattle.rounding.specs.Correct.{root, CorrectlyRounded}
+use Rattle.correct_rounding.specs.Rounded.{root, CorrectlyRounded}
 use Rattle.rounding.specs.declared.rounding.Rounding.{Rounding}
 use Rattle.rounding.specs.declared.rounding.Rounding.the-variants.{Nearest}
 use Rattle.roots.specs.Root.{sqrtOf, squareRoot}
 
 -- of a / c, above 0
 pub record Correct : Type 0 where

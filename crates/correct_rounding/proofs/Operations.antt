@@ -14,22 +14,22 @@ use lib.Ieee.Fits.{round-fits, down-pos, up-pos}
 use lib.Ieee.Exact.{HasValue}
 use lib.Ieee.Scale.{round-same}
 use Rattle.rounding.specs.Rounding.{rounded, apart}
-use Rattle.rounding.specs.Correct.{ratio, CorrectlyRounded}
+use Rattle.correct_rounding.specs.Rounded.{ratio, CorrectlyRounded}
 use Rattle.rounding.specs.declared.rounding.Rounding.{Rounding}
 use Rattle.rounding.specs.declared.rounding.Rounding.the-variants.{Nearest}
-use Rattle.rounding.proofs.Correct.{rounded-correct}
+use Rattle.correct_rounding.proofs.Rounded.{rounded-correct}
 use Rattle.rounding.proofs.Flushing.{flush-off}
 use Rattle.rounding.proofs.Written.{rounded-nearest}
 use Rattle.numbers.specs.Arithmetic.{apply, accumulates, defaultNan, applied}
 use Rattle.numbers.specs.Convert.{narrowed, narrow}
 use Rattle.numbers.specs.Integer.{integerValue, fromInteger}
-use Rattle.numbers.specs.Correct.{sumSize, sumSign, negative, magnitude, Correct}
+use Rattle.correct_rounding.specs.Operations.{sumSize, sumSign, negative, magnitude, Correct}
 use Rattle.numbers.specs.declared.arithmetic.Arithmetic.{Arithmetic}
 use Rattle.numbers.specs.declared.arithmetic.Arithmetic.the-variants.{MultiplyAccumulate, MultiplySubtract, NegateMultiplySubtract, NegateMultiplyAccumulate, Multiply, NegateMultiply, Add, Subtract, Divide}
 use Rattle.numbers.proofs.Applying.{kept}
 use Rattle.numbers.proofs.Narrow.{narrowed-value}
 use Rattle.numbers.proofs.Sight.{to-integer-names}
 use Rattle.numbers.proofs.Whole.{widened-value}
 
 -- what equals `round` of a fraction
 correct : (f : Format) (s : Bool) (num den : ℕ) (v : Float) → 0 < den → v ≡ round f s num den → CorrectlyRounded Nearest f s (ratio num den) (toBits f v)

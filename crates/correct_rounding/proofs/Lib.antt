@@ -1,0 +1,5 @@
+-- Correct rounding, proved.
+
+pub mod Rounded
+pub mod Operations
+pub mod Roots
