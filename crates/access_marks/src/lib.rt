@@ -13,7 +13,7 @@ ghost use Rattle.bits.specs.Field.{field, bitOf};
 ghost use Rattle.machine.specs.declared.Machine.{Machine};
 ghost use Rattle.machine.specs.Machine.{withR};
 ghost use Rattle.machine.specs.Registers.{regOf};
-ghost use Rattle.machine.specs.Place.{State, state};
+ghost use Rattle.machine.specs.Place.{state};
 ghost use Rattle.meaning.specs.declared.Known.{Known};
 ghost use Rattle.meaning.specs.Map.{mapFrom};
 ghost use Rattle.meaning.specs.Step.{afterMarks};

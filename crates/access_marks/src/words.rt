@@ -18,7 +18,7 @@ use machine::address::plus;
 use machine::registers::Single;
 
 // By bit 20 of the word a load or a store.
-pub fn mark_words(
+pub(crate) fn mark_words(
     ks: &mut [bool; 32],
     marks: &mut [u8],
     base: u32,

@@ -1,9 +1,8 @@
 -- Document 01's 'Values to hold it against', those to be proved: what the calls of crate `vfp` should answer, by the definitions in their contracts.
 use mathlib.Core.Path.{_≡_}
 use Prim.Native.Nat.{ℕ}
-use mathlib.Core.Bool.{false}
 use mathlib.Core.List.{List, [], _∷_, _++_}
-use lib.ListN.{replicate, set, take}
+use lib.ListN.{replicate, take}
 use Rattle.machine.specs.declared.Machine.{Machine}
 use Rattle.machine.specs.Machine.{newMachine, withS, withR, withFpscr}
 use Rattle.machine.specs.Place.{state}

@@ -3,8 +3,8 @@ pub mod Calls
 pub mod ValidWatch
 pub mod Refused
 pub mod Runs
-pub mod Kept
+pub mod Unchanged
 pub mod Sizes
 pub mod Numbered
-pub mod Unshown
+pub mod NonInterference
 pub mod Watches

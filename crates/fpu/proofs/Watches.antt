@@ -21,27 +21,27 @@ use Rattle.layout.specs.Marks.{encodeMarks, decodeMarks}
 use Rattle.answer.specs.Answer.{answerOf}
 use Rattle.fpu.specs.Outcome.{invalidArgument, decodedState}
 use Rattle.fpu.specs.WatchOutcome.{watchOutcome, reportedWatch, validWatch, decodedMap, watched, WatchOutcome}
-use Rattle.fpu.specs.Buffers.{KeptMarks, Unshown}
+use Rattle.fpu.specs.Buffers.{UnchangedMarks, NonInterference}
 use Rattle.fpu.specs.WatchPromise.{WatchPromise}
-use Rattle.fpu.proofs.Kept.{kept-marks}
-use Rattle.fpu.proofs.Unshown.{unshown}
+use Rattle.fpu.proofs.Unchanged.{unchanged-marks}
+use Rattle.fpu.proofs.NonInterference.{non-interference}
 
 module _ (base : ℕ) (list l m w v : List ℕ) (thumb : ℕ) (a : List ℕ) (b : Bool) (u : b ≡ validWatch l m thumb (length a)) where
   -- what the definition leaves has the promises over the buffers
   module _ (x : WatchOutcome) (e : x ≡ watched base list l m w v thumb a) where
-    keeps : ((n : ℕ) → getD l n 0 < 2 ^ 32) → KeptMarks l m w v x
-    keeps small = rw e (kept-marks l w thumb a small base list m v)
+    keeps : ((n : ℕ) → getD l n 0 < 2 ^ 32) → UnchangedMarks l m w v x
+    keeps small = rw e (unchanged-marks l w thumb a small base list m v)
 
-    hides : Unshown base list l m w v thumb a x
-    hides = rw e (unshown base list l m w v thumb a)
+    hides : NonInterference base list l m w v thumb a x
+    hides = rw e (non-interference base list l m w v thumb a)
 
   -- 255
   pub not-watched : not b ≡ true → WatchPromise base list l m w v thumb a (watchOutcome invalidArgument l m w v a)
   not-watched e =
       record {
         leaves = same;
-        kept = keeps _ same;
-        unshown = hides _ same;
+        unchanged = keeps _ same;
+        non-interference = hides _ same;
         reply = watchReply base list (decodedState l w thumb) (decodedMap m v);
         reports = λ t. absurd (no t);
         promise = λ t. absurd (no t);
@@ -71,8 +71,8 @@ module _ (base : ℕ) (list l m w v : List ℕ) (thumb : ℕ) (a : List ℕ) (b 
       has-watched =
           record {
             leaves = same;
-            kept = keeps _ same;
-            unshown = hides _ same;
+            unchanged = keeps _ same;
+            non-interference = hides _ same;
             reply = answered x w′ v′;
             reports = λ t. reported;
             promise = λ t. promised;

@@ -13,24 +13,24 @@ use Rattle.fpu.specs.Outcome.{Outcome, called, ran, renewed}
 use Rattle.fpu.specs.WatchOutcome.{WatchOutcome, validWatch, watched}
 
 -- after a refusal, 100 and more, and after 255 the state and the window are word for word those that came
-abbrev pub Kept : List ℕ → List ℕ → Outcome → Type 0
-Kept l w x = 100 ≤ x .result → (x .words ≡ l) × (x .window ≡ w)
+abbrev pub Unchanged : List ℕ → List ℕ → Outcome → Type 0
+Unchanged l w x = 100 ≤ x .result → (x .words ≡ l) × (x .window ≡ w)
 
 -- and so are the marks
-abbrev pub KeptMarks : List ℕ → List ℕ → List ℕ → List ℕ → WatchOutcome → Type 0
-KeptMarks l m w v x = 100 ≤ x .result → (x .words ≡ l) × (x .marks ≡ m) × (x .window ≡ w) × (x .windowMarks ≡ v)
+abbrev pub UnchangedMarks : List ℕ → List ℕ → List ℕ → List ℕ → WatchOutcome → Type 0
+UnchangedMarks l m w v x = 100 ≤ x .result → (x .words ≡ l) × (x .marks ≡ m) × (x .window ≡ w) × (x .windowMarks ≡ v)
 
 -- each exported function keeps what came, from any words: a word is below 2^32
-pub record Keeps (l w : List ℕ) (thumb : ℕ) (a : List ℕ) : Type 0 where
-  pub renewing : Kept l [] (renewed l)
-  pub processing : (word : ℕ) → Kept l w (called (reply (dataTree (eqb thumb 1) word)) l w thumb a)
-  pub transferring : (word : ℕ) → Kept l w (called (reply (transferTree (eqb thumb 1) word)) l w thumb a)
-  pub accessing : (base word : ℕ) → Kept l w (called (loadStoreReply base word) l w thumb a)
-  pub running : (base : ℕ) (list : List ℕ) → Kept l w (ran (runReply base list) l w thumb a)
-  pub watching : (base : ℕ) (list m v : List ℕ) → KeptMarks l m w v (watched base list l m w v thumb a)
+pub record UnchangedEach (l w : List ℕ) (thumb : ℕ) (a : List ℕ) : Type 0 where
+  pub renewing : Unchanged l [] (renewed l)
+  pub processing : (word : ℕ) → Unchanged l w (called (reply (dataTree (eqb thumb 1) word)) l w thumb a)
+  pub transferring : (word : ℕ) → Unchanged l w (called (reply (transferTree (eqb thumb 1) word)) l w thumb a)
+  pub accessing : (base word : ℕ) → Unchanged l w (called (loadStoreReply base word) l w thumb a)
+  pub running : (base : ℕ) (list : List ℕ) → Unchanged l w (ran (runReply base list) l w thumb a)
+  pub watching : (base : ℕ) (list m v : List ℕ) → UnchangedMarks l m w v (watched base list l m w v thumb a)
 
 abbrev pub Refusals : Type 0
-Refusals = (l w : List ℕ) (thumb : ℕ) (a : List ℕ) → ((n : ℕ) → getD l n 0 < 2 ^ 32) → Keeps l w thumb a
+Refusals = (l w : List ℕ) (thumb : ℕ) (a : List ℕ) → ((n : ℕ) → getD l n 0 < 2 ^ 32) → UnchangedEach l w thumb a
 
 -- equal in every entry that the marks call known
 abbrev pub Same : List ℕ → List ℕ → List ℕ → Type 0
@@ -47,8 +47,8 @@ pub record Alike (x y : WatchOutcome) : Type 0 where
 
 -- demand 3, of the outcome x: from another state and another window of the same size that are equal in every word that the marks call known,
 -- within the limits or not
-abbrev pub Unshown : ℕ → List ℕ → List ℕ → List ℕ → List ℕ → List ℕ → ℕ → List ℕ → WatchOutcome → Type 0
-Unshown base list l m w v thumb a x =
+abbrev pub NonInterference : ℕ → List ℕ → List ℕ → List ℕ → List ℕ → List ℕ → ℕ → List ℕ → WatchOutcome → Type 0
+NonInterference base list l m w v thumb a x =
     (l′ w′ a′ : List ℕ)
     → validWatch l m thumb (length a) ≡ true → validWatch l′ m thumb (length a′) ≡ true → length w ≡ length w′
     → Same m l l′ → Same v w w′

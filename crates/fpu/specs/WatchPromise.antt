@@ -8,16 +8,16 @@ use Rattle.watch.specs.Watch.{Reply}
 use Rattle.watch.specs.Demand.{Promise}
 use Rattle.fpu.specs.Outcome.{decodedState}
 use Rattle.fpu.specs.WatchOutcome.{WatchOutcome, reportedWatch, validWatch, decodedMap, watched}
-use Rattle.fpu.specs.Buffers.{KeptMarks, Unshown}
+use Rattle.fpu.specs.Buffers.{UnchangedMarks, NonInterference}
 
 -- of its outcome x: a state, marks, a window, its marks, the thumb and an answer at entry
 pub record WatchPromise (base : ℕ) (list l m w v : List ℕ) (thumb : ℕ) (a : List ℕ) (x : WatchOutcome) : Type 0 where
   -- it is what the definition leaves, 255 and refusals included
   pub leaves : x ≡ watched base list l m w v thumb a
   -- after a refusal and after 255 the buffers are as they came: a word of the state is below 2^32
-  pub kept : ((n : ℕ) → getD l n 0 < 2 ^ 32) → KeptMarks l m w v x
+  pub unchanged : ((n : ℕ) → getD l n 0 < 2 ^ 32) → UnchangedMarks l m w v x
   -- demand 3 over the buffers
-  pub unshown : Unshown base list l m w v thumb a x
+  pub non-interference : NonInterference base list l m w v thumb a x
   -- and over what they encode: where the arguments are valid, the reply that x reports has the watched run's promise
   pub reply : Reply
   pub reports : validWatch l m thumb (length a) ≡ true → x ≡ reportedWatch reply

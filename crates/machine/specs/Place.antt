@@ -1,8 +1,8 @@
 -- The places (document 01's term) of a machine with its window, their numbers, and what they hold.
 use Prim.Native.Nat.{ℕ, _+_, _-_, _*_, _/_, _%_, _^_}
-use mathlib.Core.Bool.{Bool, cond}
+use mathlib.Core.Bool.{cond}
 use mathlib.Core.List.{List}
-use lib.Dec.{eqb, ltb}
+use lib.Dec.{ltb}
 use lib.ListN.{getD, set}
 use Rattle.bits.specs.Psr.{nzcvOf, psrOf}
 use Rattle.machine.specs.declared.Machine.{Machine}

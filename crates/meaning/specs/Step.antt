@@ -2,7 +2,7 @@
 use Prim.Native.Nat.{ℕ, zero, suc, _+_, _%_, _^_}
 use mathlib.Core.Bool.{Bool, true, _&&_}
 use mathlib.Core.List.{List, [], _∷_}
-use Rattle.machine.specs.Place.{Place, core, State, get, put}
+use Rattle.machine.specs.Place.{Place, State, get, put}
 use Rattle.meaning.specs.Map.{Map, known, mark}
 
 -- one place, from what its sources hold

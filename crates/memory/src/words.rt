@@ -18,7 +18,7 @@ use machine::window::read32;
 use machine::window::write32;
 
 // By bit 20 of the word a load or a store.
-pub fn move_words(
+pub(crate) fn move_words(
     s: &mut [u32; 32],
     window: &mut [u32],
     base: u32,

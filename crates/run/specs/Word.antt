@@ -1,6 +1,6 @@
 -- The meaning of a word of a run, which starts in ARM state: Foreign or one of the three classes, under its condition.
 use Prim.Native.Nat.{ℕ}
-use mathlib.Core.Bool.{Bool, true, false, cond, not, _||_}
+use mathlib.Core.Bool.{Bool, false, cond, not, _||_}
 use lib.Dec.{eqb}
 use Rattle.bits.specs.Field.{field, bitOf}
 use Rattle.bits.specs.Psr.{holds, psrOf}

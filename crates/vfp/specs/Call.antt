@@ -5,7 +5,7 @@ use mathlib.Core.List.{List}
 use lib.Dec.{eqb}
 use lib.ListN.{length}
 use Rattle.machine.specs.Place.{State, state}
-use Rattle.meaning.specs.Stop.{Stop, finished, undefined, branched, refused, Report, report}
+use Rattle.meaning.specs.Stop.{finished, undefined, branched, refused, Report, report}
 use Rattle.meaning.specs.Tree.{Tree, exitOf, plain}
 use Rattle.memory.specs.LoadStore.{loadStoreTree}
 use Rattle.vfp.specs.declared.Exit.{Exit}

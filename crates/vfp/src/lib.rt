@@ -2,7 +2,6 @@
 ghost use mathlib.Core.Path.{_≡_};
 ghost use mathlib.Core.List.{List};
 ghost use Prim.Native.Nat.{ℕ, _+_, _-_, _%_, _^_};
-ghost use lib.ListN.{length};
 ghost use Rattle.machine.specs.Place.{state};
 ghost use Rattle.processing.specs.Data.{behind, dataTree};
 ghost use Rattle.transfers.specs.Transfer.{transferTree};

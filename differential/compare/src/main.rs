@@ -21,8 +21,8 @@ struct Comparison {
 }
 
 impl Comparison {
-    /// One call on both sides; the state is left as both leave it.
-    fn call(&mut self, call: Call, thumb: bool, word: u32, base: u32, state: &mut [u32; STATE], window: &[u32]) {
+    /// One call on both sides; state and window are left as both leave them.
+    fn call(&mut self, call: Call, thumb: bool, word: u32, base: u32, state: &mut [u32; STATE], window: &mut [u32]) {
         let (mut a, mut b) = (*state, *state);
         self.theirs.clear();
         self.theirs.extend_from_slice(window);
@@ -67,6 +67,7 @@ impl Comparison {
             }
         }
         *state = a;
+        window.copy_from_slice(&self.theirs);
         if self.calls % 1_000_000 == 0 {
             println!("{} million calls, {} disagreements, {} s", self.calls / 1_000_000, self.wrong, self.started.elapsed().as_secs());
         }
@@ -89,7 +90,7 @@ fn indices(c: &mut Comparison, r: &mut Random) {
             for coprocessor in [10, 11] {
                 let word = r.word() & 0xFF00_F03F | (index >> 6 & 15) << 20 | (index >> 2 & 15) << 16 | (index & 3) << 6 | coprocessor << 8;
                 cases::machine(r, &mut state, 0, 0);
-                c.call(Call::DataProcessing, round % 2 == 1, word, 0, &mut state, &[]);
+                c.call(Call::DataProcessing, round % 2 == 1, word, 0, &mut state, &mut []);
             }
         }
         for coprocessor in 0..16u32 {
@@ -98,16 +99,26 @@ fn indices(c: &mut Comparison, r: &mut Random) {
                 let word = r.word() & 0xFF00_00FF | head << 16 | target << 12 | coprocessor << 8;
                 cases::machine(r, &mut state, 0, 0);
                 let given = state;
-                c.call(Call::CoprocessorRegister, round % 2 == 1, word, 0, &mut state, &[]);
+                c.call(Call::CoprocessorRegister, round % 2 == 1, word, 0, &mut state, &mut []);
                 if matches!(coprocessor, 10 | 11) {
                     state = given;
-                    c.call(Call::Wrapper, round % 2 == 1, word, 0, &mut state, &[]);
+                    c.call(Call::Wrapper, round % 2 == 1, word, 0, &mut state, &mut []);
                 }
                 cases::machine(r, &mut state, 0, 0);
-                c.call(Call::DataProcessing, round % 2 == 1, word, 0, &mut state, &[]);
-                c.call(Call::LoadStore, round % 2 == 1, word, 0, &mut state, &[1, 2, 3]);
+                c.call(Call::DataProcessing, round % 2 == 1, word, 0, &mut state, &mut []);
+                c.call(Call::LoadStore, round % 2 == 1, word, 0, &mut state, &mut [1, 2, 3]);
             }
         }
+    }
+}
+
+/// a new machine, beside the Rust's.
+fn new(c: &mut Comparison) {
+    let (mut ours, mut theirs) = ([0xA5A5_A5A5; STATE], [0; STATE]);
+    let got = fpu::raw::new(&mut ours);
+    oracle::pack(&Cpu::new(), &mut theirs);
+    if got != 0 || ours != theirs {
+        c.disagree(format!("a new machine: {got}, {ours:08X?}, {theirs:08X?}"));
     }
 }
 
@@ -179,6 +190,7 @@ fn main() {
         started: Instant::now(),
     };
     oracle::fill_rest(&mut c.cpu, || r.word());
+    new(&mut c);
     conditions(&mut c);
     invalid(&mut c, &mut r);
     indices(&mut c, &mut r);
@@ -187,7 +199,7 @@ fn main() {
     let mut base = 0;
     let mut turn = 0u64;
     while c.calls < cases_asked {
-        // mostly a new machine; now and then several words on one
+        // mostly a new machine and window; now and then several words on what the last one left
         if turn % 4 == 0 || r.once_in(2) {
             base = cases::window(&mut r, &mut window);
             cases::machine(&mut r, &mut state, base, window.len());
@@ -197,7 +209,7 @@ fn main() {
         }
         let (call, word) = cases::word(&mut r, turn);
         let thumb = r.once_in(4);
-        c.call(call, thumb, word, base, &mut state, &window);
+        c.call(call, thumb, word, base, &mut state, &mut window);
         turn += 1;
     }
     println!();

@@ -1,4 +1,5 @@
-//! runs LISTS SEED: the plain run of libfpu.a beside a run built of the unchanged Rust's three calls, `check_condition` and the branched flag.
+//! runs LISTS SEED: the plain run of libfpu.a, and the watched run with everything known, beside a run built of the unchanged Rust's three
+//! calls, `check_condition` and the branched flag.
 
 use oracle::cases::{self, Random};
 use oracle::{Call, Cpu, STATE};
@@ -24,6 +25,25 @@ fn word(r: &mut Random, turn: u64) -> u32 {
     class | coprocessor << 8 | condition << 28
 }
 
+/// a list of 4,096 or 4,097 mixed words that runs to its end from this state and window, as far as that can be told: a word that stops the run so
+/// far gives way to one that changes nothing.
+fn long(r: &mut Random, cpu: &mut Cpu, length: u32, base: u32, state: &[u32; STATE], window: &[u32], turn: &mut u64) -> Vec<u32> {
+    let (mut s, mut w) = (*state, window.to_vec());
+    (0..length)
+        .map(|_| {
+            *turn += 1;
+            let any = word(r, *turn);
+            let (mut t, mut v) = (s, w.clone());
+            let (kind, _) = oracle::listed(cpu, &[any], base, false, &mut t, &mut v);
+            if kind != 0 {
+                return 0xEEB0_0A40;
+            }
+            (s, w) = (t, v);
+            any
+        })
+        .collect()
+}
+
 fn main() {
     let numbers: Vec<u64> = std::env::args().skip(1).filter_map(|a| a.parse().ok()).collect();
     let [lists, seed] = numbers[..] else {
@@ -35,21 +55,39 @@ fn main() {
     let mut cpu = Cpu::new();
     oracle::fill_rest(&mut cpu, || r.word());
     let (mut kinds, mut words, mut counted, mut wrong, mut turn) = ([0u64; 256], 0u64, 0u64, 0u64, 0u64);
-    let (mut list, mut window, mut state) = (Vec::new(), Vec::new(), [0; STATE]);
+    let (mut list, mut window, mut state, mut longest) = (Vec::new(), Vec::new(), [0; STATE], 0u64);
+    let mut base = 0;
     for number in 0..lists {
-        let base = cases::window(&mut r, &mut window);
-        cases::machine(&mut r, &mut state, base, window.len());
+        // a new machine and window, or what the last list left
+        if number == 0 || r.once_in(2) {
+            base = cases::window(&mut r, &mut window);
+            cases::machine(&mut r, &mut state, base, window.len());
+        }
         let length = if r.once_in(20_000) { 4096 + r.below(2) } else { r.below(16) };
-        list.clear();
-        for _ in 0..length {
-            list.push(if length > 4095 { 0xEEB0_0A40 } else { word(&mut r, turn) });
-            turn += 1;
+        if length > 4095 {
+            list = long(&mut r, &mut cpu, length, base, &state, &window, &mut turn);
+        } else {
+            list.clear();
+            for _ in 0..length {
+                list.push(word(&mut r, turn));
+                turn += 1;
+            }
         }
         let thumb = r.once_in(200);
         let (mut a, mut b, mut v, mut w) = (state, state, window.clone(), window.clone());
         let (kind, answer) = oracle::listed(&mut cpu, &list, base, thumb, &mut a, &mut v);
         let mut ours = [0xA5A5_A5A5; 4];
         let got = fpu::raw::run(&mut b, &mut w, base, thumb as u32, &list, &mut ours);
+        let (mut d, mut x, mut marks, mut window_marks) = (state, window.clone(), [1u8; STATE], vec![1u8; window.len()]);
+        let mut watched = [0xA5A5_A5A5; 4];
+        let seen = fpu::raw::watch(&mut d, &mut marks, &mut x, &mut window_marks, base, thumb as u32, &list, &mut watched);
+        if seen != kind || watched != answer || a != d || v != x || marks != [1; STATE] || window_marks.iter().any(|&m| m != 1) {
+            wrong += 1;
+            if wrong <= 10 {
+                println!("DISAGREEMENT watched {list:08X?} base {base:08X} thumb {thumb} state {state:08X?} window {window:08X?}");
+                println!("  kind {kind} answer {answer:08X?} | kind {seen} answer {watched:08X?} marks {marks:?}");
+            }
+        }
         kinds[kind as usize & 255] += 1;
         words += list.len() as u64;
         counted += answer[0] as u64;
@@ -65,6 +103,8 @@ fn main() {
                 }
             }
         }
+        longest += (list.len() > 4095 && kind == 0) as u64;
+        (state, window) = (a, v);
         if (number + 1) % 1_000_000 == 0 {
             println!("{} million lists, {wrong} disagreements, {} s", (number + 1) / 1_000_000, started.elapsed().as_secs());
         }
@@ -73,6 +113,7 @@ fn main() {
     for (kind, name) in [(0, "Finished"), (1, "Foreign"), (2, "Undefined"), (3, "Branched"), (101, "refusal 1"), (102, "refusal 2"), (103, "refusal 3"), (104, "refusal 4"), (105, "refusal 5")] {
         println!("{name:24} {:>12}", kinds[kind]);
     }
+    println!("{:24} {longest:>12}", "4,096 words to the end");
     println!("{:24} {lists:>12}", "lists");
     println!("{:24} {words:>12}", "words");
     println!("{:24} {counted:>12}", "counted words");

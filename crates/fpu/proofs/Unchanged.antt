@@ -27,17 +27,17 @@ use Rattle.layout.proofs.Bytes.{encode-decode-marks}
 use Rattle.answer.proofs.Bounds.{Near, near-data, near-transfer, near-load-store, near-meaning, plain-fine, run-bounded, watch-bounded}
 use Rattle.fpu.specs.Outcome.{outcome, reported, invalidArgument, validCall, decodedState, renewed}
 use Rattle.fpu.specs.WatchOutcome.{watchOutcome, reportedWatch, validWatch, decodedMap, watched}
-use Rattle.fpu.specs.Buffers.{Kept, KeptMarks, Refusals}
+use Rattle.fpu.specs.Buffers.{Unchanged, UnchangedMarks, Refusals}
 use Rattle.fpu.proofs.Calls.{valid-call-state}
 use Rattle.fpu.proofs.ValidWatch.{valid-watch-state, valid-watch-bits}
 
 -- ---- a reply that is a refusal leaves the state
 
-tree-kept : (t : Tree) (st : State) → Near t → 100 ≤ reply t st .report .kind → reply t st .leaves ≡ st
-tree-kept t st n p = absurd (omega (arith, plain-fine t st n .1, p))
+tree-unchanged : (t : Tree) (st : State) → Near t → 100 ≤ reply t st .report .kind → reply t st .leaves ≡ st
+tree-unchanged t st n p = absurd (omega (arith, plain-fine t st n .1, p))
 
-access-kept : (base w : ℕ) (st : State) → 100 ≤ loadStoreReply base w st .report .kind → loadStoreReply base w st .leaves ≡ st
-access-kept base w st = by (eqb n 0)
+access-unchanged : (base w : ℕ) (st : State) → 100 ≤ loadStoreReply base w st .report .kind → loadStoreReply base w st .leaves ≡ st
+access-unchanged base w st = by (eqb n 0)
   where
     n : ℕ
     n = windowLimit base (length (st .window))
@@ -46,11 +46,11 @@ access-kept base w st = by (eqb n 0)
     y b = cond b (reply (loadStoreTree base w) st) (record { report = report (refused n); leaves = st })
 
     by : (b : Bool) → 100 ≤ y b .report .kind → y b .leaves ≡ st
-    by true p = tree-kept (loadStoreTree base w) st (near-load-store base w) p
+    by true p = tree-unchanged (loadStoreTree base w) st (near-load-store base w) p
     by false p = refl
 
-run-kept : (base : ℕ) (list : List ℕ) (st : State) → 100 ≤ Run.runReply base list st .report .kind → Run.runReply base list st .leaves ≡ st
-run-kept base list st = by (eqb n 0)
+run-unchanged : (base : ℕ) (list : List ℕ) (st : State) → 100 ≤ Run.runReply base list st .report .kind → Run.runReply base list st .leaves ≡ st
+run-unchanged base list st = by (eqb n 0)
   where
     n : ℕ
     n = runLimit (length list) base (length (st .window)) (st .machine .thumb)
@@ -62,10 +62,10 @@ run-kept base list st = by (eqb n 0)
     by true p = absurd (omega (arith, run-bounded (meaning base) (near-meaning base) list 0 st .0 .1, p))
     by false p = refl
 
-watch-kept : (base : ℕ) (list : List ℕ) (st : State) (μ : Map) → 100 ≤ watchReply base list st μ .report .kind
+watch-unchanged : (base : ℕ) (list : List ℕ) (st : State) (μ : Map) → 100 ≤ watchReply base list st μ .report .kind
     → (watchReply base list st μ .leaves ≡ st) × (watchReply base list st μ .map ≡ μ)
 unfolding watchReply
-watch-kept base list st μ = by (eqb n 0)
+watch-unchanged base list st μ = by (eqb n 0)
   where
     n : ℕ
     n = limitOf base list st μ
@@ -80,45 +80,45 @@ watch-kept base list st μ = by (eqb n 0)
 -- ---- in the buffers
 
 module _ (l w : List ℕ) (thumb : ℕ) (a : List ℕ) (small : (n : ℕ) → getD l n 0 < 2 ^ 32) where
-  kept : (n : ℕ) (y : Reply) → (100 ≤ y .report .kind → y .leaves ≡ decodedState l w thumb)
-      → Kept l w (cond (validCall l thumb (length a)) (reported n y) (outcome invalidArgument l w a))
-  kept n y k = by (validCall l thumb (length a)) refl
+  unchanged : (n : ℕ) (y : Reply) → (100 ≤ y .report .kind → y .leaves ≡ decodedState l w thumb)
+      → Unchanged l w (cond (validCall l thumb (length a)) (reported n y) (outcome invalidArgument l w a))
+  unchanged n y k = by (validCall l thumb (length a)) refl
     where
-      by : (b : Bool) → validCall l thumb (length a) ≡ b → Kept l w (cond b (reported n y) (outcome invalidArgument l w a))
+      by : (b : Bool) → validCall l thumb (length a) ≡ b → Unchanged l w (cond b (reported n y) (outcome invalidArgument l w a))
       by true e p =
           let v : Valid l = valid-call-state l thumb (length a) true (sym e) refl in
           (rw (k p) (encode-decode (eqb thumb 1) l v (small 51)), rw (k p))
       by false e p = (refl, refl)
 
-  pub kept-marks : (base : ℕ) (list m v : List ℕ) → KeptMarks l m w v (watched base list l m w v thumb a)
-  kept-marks base list m v = by (validWatch l m thumb (length a)) refl
+  pub unchanged-marks : (base : ℕ) (list m v : List ℕ) → UnchangedMarks l m w v (watched base list l m w v thumb a)
+  unchanged-marks base list m v = by (validWatch l m thumb (length a)) refl
     where
       y : Watch.Reply
       y = watchReply base list (decodedState l w thumb) (decodedMap m v)
 
-      by : (b : Bool) → validWatch l m thumb (length a) ≡ b → KeptMarks l m w v (cond b (reportedWatch y) (watchOutcome invalidArgument l m w v a))
+      by : (b : Bool) → validWatch l m thumb (length a) ≡ b → UnchangedMarks l m w v (cond b (reportedWatch y) (watchOutcome invalidArgument l m w v a))
       by true e p =
-          let k = watch-kept base list (decodedState l w thumb) (decodedMap m v) p in
+          let k = watch-unchanged base list (decodedState l w thumb) (decodedMap m v) p in
           let z : Valid l = valid-watch-state l m thumb (length a) true (sym e) refl in
           (rw (k .0) (encode-decode (eqb thumb 1) l z (small 51)), rw (k .1) (encode-decode-marks m (valid-watch-bits l m thumb (length a) true (sym e) refl)), rw (k .0), rw (k .1))
       by false e p = (refl, refl, refl, refl)
 
-kept-new : (l : List ℕ) → Kept l [] (renewed l)
-kept-new l = by (eqb (length l) 52)
+unchanged-new : (l : List ℕ) → Unchanged l [] (renewed l)
+unchanged-new l = by (eqb (length l) 52)
   where
-    by : (b : Bool) → Kept l [] (cond b (outcome 0 (encode newMachine) [] []) (outcome invalidArgument l [] []))
+    by : (b : Bool) → Unchanged l [] (cond b (outcome 0 (encode newMachine) [] []) (outcome invalidArgument l [] []))
     by true p = absurd (omega (arith, p))
     by false p = (refl, refl)
 
 pub refusals : Refusals
 refusals l w thumb a small =
     record {
-      renewing = kept-new l;
-      processing = λ word. kept l w thumb a small 0 (reply (dataTree (eqb thumb 1) word) (decodedState l w thumb)) (tree-kept (dataTree (eqb thumb 1) word) _ (near-data (eqb thumb 1) word));
-      transferring = λ word. kept l w thumb a small 0 (reply (transferTree (eqb thumb 1) word) (decodedState l w thumb)) (tree-kept (transferTree (eqb thumb 1) word) _ (near-transfer (eqb thumb 1) word));
-      accessing = λ base word. kept l w thumb a small 0 (loadStoreReply base word (decodedState l w thumb)) (access-kept base word (decodedState l w thumb));
+      renewing = unchanged-new l;
+      processing = λ word. unchanged l w thumb a small 0 (reply (dataTree (eqb thumb 1) word) (decodedState l w thumb)) (tree-unchanged (dataTree (eqb thumb 1) word) _ (near-data (eqb thumb 1) word));
+      transferring = λ word. unchanged l w thumb a small 0 (reply (transferTree (eqb thumb 1) word) (decodedState l w thumb)) (tree-unchanged (transferTree (eqb thumb 1) word) _ (near-transfer (eqb thumb 1) word));
+      accessing = λ base word. unchanged l w thumb a small 0 (loadStoreReply base word (decodedState l w thumb)) (access-unchanged base word (decodedState l w thumb));
       running = λ base list.
           let y = Run.runReply base list (decodedState l w thumb) in
-          kept l w thumb a small (y .count) (record { report = y .report; leaves = y .leaves }) (run-kept base list (decodedState l w thumb));
-      watching = kept-marks l w thumb a small;
+          unchanged l w thumb a small (y .count) (record { report = y .report; leaves = y .leaves }) (run-unchanged base list (decodedState l w thumb));
+      watching = unchanged-marks l w thumb a small;
     }

@@ -27,7 +27,7 @@ use Rattle.layout.proofs.Bytes.{decode-encode-marks}
 use Rattle.limits.proofs.Limits.{marks-within}
 use Rattle.fpu.specs.Outcome.{decodedState}
 use Rattle.fpu.specs.WatchOutcome.{reportedWatch, decodedMap, watched}
-use Rattle.fpu.specs.Buffers.{Same, Alike, Unshown}
+use Rattle.fpu.specs.Buffers.{Same, Alike, NonInterference}
 use Rattle.fpu.proofs.ValidWatch.{valid-watch-state, valid-watch-marks}
 use Rattle.fpu.proofs.Sizes.{Sizes, watch-sizes}
 use Rattle.fpu.proofs.Numbered.{held, decoded-place, decoded-mark}
@@ -172,7 +172,7 @@ module _ (base : ℕ) (list m v : List ℕ) (thumb : ℕ) (l l′ w w′ : List 
             rw (refused-reply base list a μ t, refused-reply base list b μ (sym (ap (λ (k : ℕ). eqb k 0) same-limit) ∙ t))
             (reported-alike (record { report = report (refused (limitOf base list a μ)); count = 0; leaves = a; map = μ }) (record { report = report (refused (limitOf base list b μ)); count = 0; leaves = b; map = μ }) (ap (λ (k : ℕ). report (refused k)) same-limit) refl refl za (zb .0) first g)
 
-pub unshown : (base : ℕ) (list l m w v : List ℕ) (thumb : ℕ) (a : List ℕ) → Unshown base list l m w v thumb a (watched base list l m w v thumb a)
-unshown base list l m w v thumb a l′ w′ a′ u u′ e s g =
+pub non-interference : (base : ℕ) (list l m w v : List ℕ) (thumb : ℕ) (a : List ℕ) → NonInterference base list l m w v thumb a (watched base list l m w v thumb a)
+non-interference base list l m w v thumb a l′ w′ a′ u u′ e s g =
     rw (u, u′)
     (replies base list m v thumb l l′ w w′ (valid-watch-state l m thumb (length a) true (sym u) refl) (valid-watch-state l′ m thumb (length a′) true (sym u′) refl) (valid-watch-marks l m thumb (length a) true (sym u) refl) e s g)
