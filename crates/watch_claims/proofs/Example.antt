@@ -16,7 +16,7 @@ use Rattle.processing.specs.Operation.{extensionBy, arithmetics, operationBy, o
 use Rattle.short_vectors.specs.Vector.{stepOf, secondOf}
 use Rattle.limits.specs.Marks.{bitsOnly}
 use Rattle.limits.specs.Limit.{windowLimit, runLimit, watchLimit}
-use Rattle.run.specs.Word.{classTree, conditioned, meaning}
+use Rattle.run_word.specs.Word.{classTree, conditioned, meaning}
 use Rattle.transfers.specs.Transfer.{transferTree}
 use Rattle.watch.specs.Watch.{Reply, watchReply}
 
