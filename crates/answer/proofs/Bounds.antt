@@ -15,7 +15,7 @@ use Rattle.meaning.specs.Map.{Map, known}
 use Rattle.meaning.specs.Step.{step, nothing}
 use Rattle.meaning.specs.Stop.{Stop, foreign, Report, report, hangs, refused}
 use Rattle.meaning.specs.Tree.{Tree, stop, go, branch, ask, Next, on, last, halt, exitOf, plain, seen, watched}
-use Rattle.processing.specs.Operation.{Operation, operationOf, fmac, fnmac, fmsc, fnmsc, fmul, fnmul, fadd, fsub, fdiv, fcpy, fabs, fneg, fsqrt, fcmp, fcmpe, fcmpz, fcmpez, fcvt, fuito, fsito, ftoui, ftouiz, ftosi, ftosiz, undefined}
+use Rattle.decoding.specs.Operation.{Operation, operationOf, fmac, fnmac, fmsc, fnmsc, fmul, fnmul, fadd, fsub, fdiv, fcpy, fabs, fneg, fsqrt, fcmp, fcmpe, fcmpz, fcmpez, fcvt, fuito, fsito, ftoui, ftouiz, ftosi, ftosiz, undefined}
 use Rattle.processing.specs.Data.{operationTree, dataTree, undefinedTree}
 use Rattle.transfers.specs.declared.Transfer.{Transfer}
 use Rattle.transfers.specs.declared.Transfer.the-variants.{System, Single, Nothing}

@@ -12,7 +12,7 @@ use Rattle.meaning.specs.Step.{after, afterMarks}
 use Rattle.meaning.specs.Stop.{report, hangs}
 use Rattle.meaning.specs.Tree.{watched}
 use Rattle.processing.specs.Data.{operationTree, dataTree}
-use Rattle.processing.specs.Operation.{extensionBy, arithmetics, operationBy, operationOf, operationAt}
+use Rattle.decoding.specs.Operation.{extensionBy, arithmetics, operationBy, operationOf, operationAt}
 use Rattle.short_vectors.specs.Vector.{stepOf, secondOf}
 use Rattle.limits.specs.Marks.{bitsOnly}
 use Rattle.limits.specs.Limit.{windowLimit, runLimit, watchLimit}

@@ -20,8 +20,8 @@ use Rattle.watch_word.proofs.word.watch_transfer.Statement.{statement}
 use Rattle.watch_word.proofs.word.watch_transfer.Tie as tie
 use Rattle.watch_word.proofs.word.watch_transfer.Reads as reads
 use Rattle.watch_word.proofs.word.watch_transfer.Lts as lts
-use Rattle.access_marks.proofs.single.mark_single_core.Reads as mark-single-core-reads
-use Rattle.access_marks.proofs.system.mark_system.Reads as mark-system-reads
+use Rattle.transfer_marks.proofs.single.mark_single_core.Reads as mark-single-core-reads
+use Rattle.transfer_marks.proofs.system.mark_system.Reads as mark-system-reads
 use Rattle.transfers.proofs.single.single_core.Reads as single-core-reads
 use Rattle.transfers.proofs.system.system.Reads as system-reads
 use Rattle.transfers.proofs.transfer_of.Reads as transfer-of-reads

@@ -8,11 +8,11 @@ ghost use Rattle.meaning.specs.declared.Known.{Known};
 ghost use Rattle.meaning.specs.Map.{mapFrom};
 ghost use Rattle.meaning.specs.Hang.{marked};
 ghost use Rattle.transfers.specs.Transfer.{singleTree};
-use super::places::mark_single;
-use super::places::single_known;
 use bits::field::bit;
 use bits::field::bits;
 use machine::registers::sreg;
+use place_marks::places::mark_single;
+use place_marks::places::single_known;
 
 pub fn mark_single_core(ks: &mut [bool; 32], kr: &mut [bool; 16], op: u32)
     ensures { λ _. ⌜ ((thumb : Bool) (k : Known) (st : State) (w : List ℕ) → mapFrom (now (ks .exit)) (now (kr .exit)) k w ≡ marked (singleTree thumb op) st (mapFrom (now (ks .entry)) (now (kr .entry)) k w)) ⌝ }

@@ -1,8 +1,8 @@
--- `access_marks::system::value_known` meets its contract.
-use Rattle.access_marks.proofs.Transfers.{other}
+-- `transfer_marks::system::value_known` meets its contract.
+use Rattle.transfer_marks.proofs.Transfers.{other}
 use Rattle.meaning.specs.Map.{mapFrom}
-use Rattle.access_marks.proofs.system.value_known.Statement.{statement}
-use Rattle.access_marks.proofs.system.value_known.Tie as tie
+use Rattle.transfer_marks.proofs.system.value_known.Statement.{statement}
+use Rattle.transfer_marks.proofs.system.value_known.Tie as tie
 
 returns : tie.Need-returns
 returns c = λ s r w p. rw (c .before .match .keys1)

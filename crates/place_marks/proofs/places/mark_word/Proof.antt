@@ -1,12 +1,12 @@
--- `access_marks::places::mark_word` meets its contract.
+-- `place_marks::places::mark_word` meets its contract.
 use mathlib.Core.Path.{sym}
 use denote.Ref.{now}
 use borrow.Author.Needs.{needs}
 use Rattle.machine.proofs.Inside.{set-past}
 use Rattle.bits.specs.Psr.{oneOf}
 use Rattle.machine.specs.Window.{wordAt}
-use Rattle.access_marks.proofs.places.mark_word.Statement.{statement}
-use Rattle.access_marks.proofs.places.mark_word.Tie as tie
+use Rattle.place_marks.proofs.places.mark_word.Statement.{statement}
+use Rattle.place_marks.proofs.places.mark_word.Tie as tie
 
 word-at-requires : tie.Need-word-at-requires
 word-at-requires c κs = search needs

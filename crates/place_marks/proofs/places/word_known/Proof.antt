@@ -1,11 +1,11 @@
--- `access_marks::places::word_known` meets its contract.
+-- `place_marks::places::word_known` meets its contract.
 use lib.ListN.{List·getD-eq-default}
 use denote.Ref.{now}
 use borrow.Author.Needs.{needs}
-use Rattle.access_marks.proofs.Within.{within}
+use Rattle.place_marks.proofs.Within.{within}
 use Rattle.machine.specs.Window.{wordAt}
-use Rattle.access_marks.proofs.places.word_known.Statement.{statement}
-use Rattle.access_marks.proofs.places.word_known.Tie as tie
+use Rattle.place_marks.proofs.places.word_known.Statement.{statement}
+use Rattle.place_marks.proofs.places.word_known.Tie as tie
 
 word-at-requires : tie.Need-word-at-requires
 word-at-requires c κs = search needs

@@ -2,7 +2,7 @@
 ghost use mathlib.Core.Path.{_≡_};
 ghost use Prim.Native.Nat.{_<_};
 ghost use lib.Ieee.{binary32, binary64};
-ghost use Rattle.processing.specs.Fields.{regD, regN, regM, kindOf, arithmeticAt};
+ghost use Rattle.decoding.specs.Fields.{regD, regN, regM, kindOf, arithmeticAt};
 use bits::field::bits;
 use machine::registers::Double;
 use machine::registers::Single;

@@ -1,15 +1,15 @@
--- `access_marks::system::mark_system` meets its contract.
+-- `transfer_marks::system::mark_system` meets its contract.
 use borrow.Author.Tests.{ne-eqb}
 use mathlib.Core.Path.{refl, sym, _∙_}
 use denote.Ref.{now}
 use borrow.Author.Needs.{needs}
 use Rattle.machine.specs.Place.{core}
 use Rattle.meaning.proofs.Laws.{marked-once}
-use Rattle.access_marks.proofs.Transfers.{read-core, read-flags}
+use Rattle.transfer_marks.proofs.Transfers.{read-core, read-flags}
 use Rattle.meaning.specs.Map.{mapFrom}
 use Rattle.bits.specs.Field.{field}
-use Rattle.access_marks.proofs.system.mark_system.Statement.{statement}
-use Rattle.access_marks.proofs.system.mark_system.Tie as tie
+use Rattle.transfer_marks.proofs.system.mark_system.Statement.{statement}
+use Rattle.transfer_marks.proofs.system.mark_system.Tie as tie
 
 bits-requires : tie.Need-bits-requires
 bits-requires c κs = search needs

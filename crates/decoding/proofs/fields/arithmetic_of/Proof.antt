@@ -1,10 +1,10 @@
--- `processing::fields::arithmetic_of` meets its contract.
+-- `decoding::fields::arithmetic_of` meets its contract.
 use borrow.Author.Needs.{needs}
 use Rattle.bits.proofs.Conditions.{up}
-use Rattle.processing.specs.Fields.{arithmeticAt}
-use Rattle.processing.proofs.Done.{divide-from}
-use Rattle.processing.proofs.fields.arithmetic_of.Statement.{statement}
-use Rattle.processing.proofs.fields.arithmetic_of.Tie as tie
+use Rattle.decoding.specs.Fields.{arithmeticAt}
+use Rattle.decoding.proofs.Divide.{divide-from}
+use Rattle.decoding.proofs.fields.arithmetic_of.Statement.{statement}
+use Rattle.decoding.proofs.fields.arithmetic_of.Tie as tie
 
 pub arithmetic-of-spec : {M : Type 1} → statement M
 unfolding arithmeticAt

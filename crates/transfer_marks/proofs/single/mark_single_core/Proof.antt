@@ -1,14 +1,14 @@
--- `access_marks::single::mark_single_core` meets its contract.
+-- `transfer_marks::single::mark_single_core` meets its contract.
 use mathlib.Core.Path.{sym, _∙_}
 use denote.Ref.{now}
 use borrow.Author.Needs.{needs}
 use Rattle.machine.specs.Registers.{sregOf}
 use Rattle.meaning.proofs.Laws.{marked-once}
-use Rattle.access_marks.proofs.Transfers.{read-single}
+use Rattle.transfer_marks.proofs.Transfers.{read-single}
 use Rattle.meaning.specs.Map.{mapFrom}
 use Rattle.bits.specs.Field.{field}
-use Rattle.access_marks.proofs.single.mark_single_core.Statement.{statement}
-use Rattle.access_marks.proofs.single.mark_single_core.Tie as tie
+use Rattle.transfer_marks.proofs.single.mark_single_core.Statement.{statement}
+use Rattle.transfer_marks.proofs.single.mark_single_core.Tie as tie
 
 bits-requires : tie.Need-bits-requires
 bits-requires c κs = search needs

@@ -5,7 +5,7 @@ use mathlib.Core.List.{List, [], _∷_}
 use lib.Dec.{eqb}
 use lib.ListN.{getD}
 use Rattle.bits.specs.Field.{field, bitOf}
-use Rattle.processing.specs.Fields.{kindOf}
+use Rattle.decoding.specs.Fields.{kindOf}
 
 pub data Operation : Type 0 where
   -- d + n × m, d − n × m, −d + n × m, −d − n × m

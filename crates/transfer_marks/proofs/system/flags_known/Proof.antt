@@ -1,8 +1,8 @@
--- `access_marks::system::flags_known` meets its contract.
-use Rattle.access_marks.proofs.Transfers.{other-flags}
+-- `transfer_marks::system::flags_known` meets its contract.
+use Rattle.transfer_marks.proofs.Transfers.{other-flags}
 use Rattle.meaning.specs.Map.{mapFrom}
-use Rattle.access_marks.proofs.system.flags_known.Statement.{statement}
-use Rattle.access_marks.proofs.system.flags_known.Tie as tie
+use Rattle.transfer_marks.proofs.system.flags_known.Statement.{statement}
+use Rattle.transfer_marks.proofs.system.flags_known.Tie as tie
 
 returns : tie.Need-returns
 returns c = λ s r w. rw (c .match .keys1)
