@@ -17,17 +17,16 @@ ghost use mathlib.Core.Path.{_≡_};
 ghost use lib.ListN.{length};
 
 mod input;
-mod items;
 mod mistakes;
 mod output;
 mod report;
 
 use input::Input;
-use items::Layout;
-use items::Taken;
 use libc::STDIN_FILENO;
 use libc::STDOUT_FILENO;
 use machine::place::WINDOW;
+use script::item::Layout;
+use script::text::Taken;
 
 // Reads the text, and runs what it says.
 fn run_text(text: &[u8]) {
@@ -37,7 +36,7 @@ fn run_text(text: &[u8]) {
     let mut window_marks = [1u8; 16384];
     let mut list = [0u32; 4096];
     fpu::fpu_new(&mut state);
-    let taken = items::take(
+    let taken = script::text::take(
         text,
         &mut state,
         &mut marks,

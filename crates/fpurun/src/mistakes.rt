@@ -3,19 +3,8 @@ use super::output::low;
 use super::output::say;
 use libc::STDOUT_FILENO;
 use listing::line::Expected;
+use script::mistake::Mistake;
 use text::text::Text;
-
-pub enum Mistake {
-    Item(Expected),
-    // a word of the window that is not there; the window has so many
-    Beyond(usize),
-    // a list with one word too many
-    Words,
-    // a second window
-    Again,
-    // a window that a run would refuse, by the number of the refusal
-    Refused(u8),
-}
 
 fn begun(line: usize) -> Text {
     Text::new()

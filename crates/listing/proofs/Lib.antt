@@ -1,4 +1,5 @@
--- Laws on numbers, texts, words and places, and what is printed read back.
+-- Laws on the words of a line and on items.
 
 pub mod Words
 pub mod Items
+pub mod Splitting

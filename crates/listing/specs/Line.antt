@@ -10,6 +10,8 @@ use Rattle.numerals.specs.declared.number.Number.the-variants.{Value, Wrong}
 use Rattle.listing.specs.declared.line.Item.{Item}
 use Rattle.listing.specs.declared.line.Item.the-variants.{Nothing, Word, Set, Unknown, Window, Mistake}
 use Rattle.listing.specs.declared.line.Expected.the-variants as expected
+use Rattle.listing.specs.declared.line.Next.{Next}
+use Rattle.listing.specs.declared.line.Next.the-variants as next
 use Rattle.numerals.specs.Number.{hexOf, decimalOf, valueOf}
 use Rattle.place_names.specs.Place.{placeOf, same, width}
 use Rattle.listing.specs.Token.{leadingOf}
@@ -31,8 +33,8 @@ restOf l = drop (endOf l) l
 abbrev pub blank : List ℕ → Bool
 blank l = eqb (startOf l) (endOf l)
 
--- an item of a number, if there is one
-abbrev pub given : Number → (ℕ → Item) → Item → Item
+-- what comes of a number, if there is one
+abbrev pub given : {A : Type 0} → Number → (ℕ → A) → A → A
 given (Value x) f z = f x
 given Wrong f z = z
 
@@ -82,3 +84,7 @@ itemOf l =
     (cond (same (firstOf l) setText) (setOf (restOf l))
     (cond (same (firstOf l) windowText) (windowOf (restOf l))
     (cond (same (firstOf l) unknownText) (unknownOf (endOf l) (restOf l)) (wordOf l))))
+
+-- the first place of a list of places, after n bytes of the line, with the bytes up to its end
+unfoldable pub nextPlace : ℕ → List ℕ → Next
+nextPlace n l = cond (blank l) next.End (given (placeOf (firstOf l)) (λ p. next.Place p (n + endOf l)) next.Mistake)

@@ -25,3 +25,28 @@ isGap b = cond (eqb b 32) true (eqb b 9)
 unfoldable pub leadingOf : Bool → List ℕ → ℕ
 leadingOf g [] = 0
 leadingOf g (x ∷ xs) = cond (Bool·beq (isGap x) g) (suc (leadingOf g xs)) 0
+
+-- a byte in front of the first of some texts
+abbrev pub onto : ℕ → List (List ℕ) → List (List ℕ)
+onto b [] = (b ∷ []) ∷ []
+onto b (t ∷ ts) = (b ∷ t) ∷ ts
+
+-- what stands between the bytes of a kind; after the last of them nothing more has to stand
+unfoldable pub split : (ℕ → Bool) → List ℕ → List (List ℕ)
+split p [] = []
+split p (b ∷ t) = cond (p b) ([] ∷ split p t) (onto b (split p t))
+
+-- the lines of a text: each up to a line feed or the text's end
+abbrev pub linesOf : List ℕ → List (List ℕ)
+linesOf t = split (λ b. eqb b 10) t
+
+-- the texts that are not empty
+unfoldable pub kept : List (List ℕ) → List (List ℕ)
+kept [] = []
+kept ([] ∷ ts) = kept ts
+kept ((b ∷ t) ∷ ts) = (b ∷ t) ∷ kept ts
+
+-- the words of a line
+unfoldable pub wordsOf : List ℕ → List (List ℕ)
+unfolding split kept
+wordsOf l = kept (split isGap l)

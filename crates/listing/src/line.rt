@@ -1,8 +1,8 @@
 // What a line says.
 ghost use mathlib.Core.Path.{_≡_};
 ghost use Prim.Native.Nat.{ℕ, _≤_, _<_};
-ghost use lib.ListN.{length};
-ghost use Rattle.listing.specs.Line.{itemOf, endedOf, setOf, setTo, windowOf, windowFrom, unknownOf};
+ghost use lib.ListN.{length, drop};
+ghost use Rattle.listing.specs.Line.{itemOf, endedOf, setOf, setTo, windowOf, windowFrom, unknownOf, nextPlace};
 use super::token::first;
 use numerals::number::Number;
 use numerals::number::decimal_of;
@@ -150,7 +150,7 @@ fn unknown_of(rest: &[u8], from: usize) -> Item
 
 // The place that a line names from a position on.
 pub fn next_place(line: &[u8], from: usize) -> Next
-    ensures { λ r. ⌜ ((p n : ℕ) → r ≡ Next.Place p n → (from < n) × (n ≤ length (now (line .entry)))) ⌝ }
+    ensures { λ r. ⌜ ((p n : ℕ) → r ≡ Next.Place p n → (from < n) × (n ≤ length (now (line .entry)))) × (r ≡ nextPlace from (drop from (now (line .entry)))) ⌝ }
 {
     if line.len() < from {
         return Next::End;

@@ -1,5 +1,6 @@
 -- `listing::line::next_place` meets its contract.
 use Rattle.listing.proofs.Words.{part-end}
+use Rattle.listing.proofs.Items.{next-none, next-blank, next-wrong, next-value}
 use denote.Ref.{now}
 use Rattle.listing.proofs.Words.{end-none, mistake-none, place-from}
 use native.Mathlib.Omega.{arith}
@@ -8,7 +9,7 @@ use Rattle.listing.proofs.line.next_place.Statement.{statement}
 use Rattle.listing.proofs.line.next_place.Tie as tie
 
 returns : tie.Need-returns
-returns c = λ p n e. absurd (end-none p n e)
+returns c = (λ p n e. absurd (end-none p n e), next-none (now (c .before .before .args .line)) _ (omega arith))
 
 sub-rest : tie.Need-sub-rest
 sub-rest c = search needs
@@ -23,7 +24,7 @@ first-requires : tie.Need-first-requires
 first-requires c κs = search needs
 
 returns-2 : tie.Need-returns-2
-returns-2 c = λ p n e. absurd (end-none p n e)
+returns-2 c = (λ p n e. absurd (end-none p n e), next-blank (now (c .before .before .before .before .before .args .line)) _ _ _ (c .before .first .ensures) (c .if2 .taken))
 
 sub-place-of : tie.Need-sub-place-of
 sub-place-of c = search needs
@@ -44,13 +45,13 @@ enum-told : tie.Need-enum-told
 enum-told c = search needs
 
 returns-3 : tie.Need-returns-3
-returns-3 c = λ p n e. absurd (mistake-none p n e)
+returns-3 c = (λ p n e. absurd (mistake-none p n e), next-wrong (now (c .before .before .before .before .before .before .before .before .before .args .line)) _ _ _ (c .before .before .before .before .before .first .ensures) (c .before .before .before .before .if2 .left) _ (c .before .before .place-of .ensures) (c .enum-told .given .1))
 
 add-t8 : tie.Need-add-t8
 add-t8 c = search needs
 
 returns-4 : tie.Need-returns-4
-returns-4 c = λ p n e. let q = place-from _ p _ n e in (omega (arith, c .before .before .before .before .before .if2 .left, c .before .before .before .before .before .before .first .ensures .0), omega (arith, part-end (now (c .before .before .before .before .before .before .before .before .before .before .args .line)) _ _ (c .before .before .before .before .before .before .before .before .if1 .left) (c .before .before .before .before .before .before .first .ensures .1)))
+returns-4 c = (λ p n e. let q = place-from _ p _ n e in (omega (arith, c .before .before .before .before .before .if2 .left, c .before .before .before .before .before .before .first .ensures .0), omega (arith, part-end (now (c .before .before .before .before .before .before .before .before .before .before .args .line)) _ _ (c .before .before .before .before .before .before .before .before .if1 .left) (c .before .before .before .before .before .before .first .ensures .1))), next-value (now (c .before .before .before .before .before .before .before .before .before .before .args .line)) _ _ _ (c .before .before .before .before .before .before .first .ensures) (c .before .before .before .before .before .if2 .left) _ (c .before .before .before .place-of .ensures) _ (c .before .place .given .1))
 
 pub next-place-spec : {M : Type 1} → statement M
 next-place-spec =
