@@ -7,9 +7,9 @@ use native.Mathlib.Decide.{decLt}
 use native.Mathlib.Omega.{arith}
 use lib.Dec.{ltb, eqb, lit<}
 use borrow.Author.Tests.{lt-ltb, le-ltb, ltb-true, ltb-false, ne-eqb}
-use lib.Ieee.{Float, nan, inf, fin, Format, binary32, binary64, up, down, unlike, round, sum, add, sub, mul, div, neg, isNan, nanBits, ofBits, toBits}
+use lib.Ieee.{Float, nan, inf, fin, Format, binary32, binary64, up, down, unlike, round, sum, add, sub, mul, div, neg, ofBits, toBits}
 use lib.Ieee.Back.{round-whole}
-use lib.Ieee.Bits.{ofBits-toBits, nanBits-is}
+use lib.Ieee.Bits.{ofBits-toBits}
 use lib.Ieee.Fits.{round-fits, down-pos, up-pos}
 use lib.Ieee.Exact.{HasValue}
 use lib.Ieee.Scale.{round-same}
@@ -26,7 +26,7 @@ use Rattle.numbers.specs.Integer.{integerValue, fromInteger}
 use Rattle.correct_rounding.specs.Operations.{sumSize, sumSign, negative, magnitude, Correct}
 use Rattle.numbers.specs.declared.arithmetic.Arithmetic.{Arithmetic}
 use Rattle.numbers.specs.declared.arithmetic.Arithmetic.the-variants.{MultiplyAccumulate, MultiplySubtract, NegateMultiplySubtract, NegateMultiplyAccumulate, Multiply, NegateMultiply, Add, Subtract, Divide}
-use Rattle.numbers.proofs.Applying.{kept}
+use Rattle.numbers.proofs.Applying.{kept, word-of-value}
 use Rattle.numbers.proofs.Narrow.{narrowed-value}
 use Rattle.numbers.proofs.Sight.{to-integer-names}
 use Rattle.numbers.proofs.Whole.{widened-value}
@@ -164,87 +164,6 @@ div-of f (fin u m e) (fin v n g) s t a b c d C D B h k =
 
     some : n ≡ 0 → ⊥
     some z = none (b * down g) (mul-pos B (down-pos g)) (sym (ap (λ (x : ℕ). x * up g * d) z ∙ ap (λ (x : ℕ). x * d) (zero-mul (up g)) ∙ zero-mul d) ∙ k .1)
-
--- ---- NaN operands
-
-is-nan : (x : Float) → isNan x ≡ true → x ≡ nan
-unfolding isNan
-is-nan nan h = refl
-is-nan (inf s) h = cc
-is-nan (fin s m e) h = cc
-
-add-nan : (f : Format) (x : Float) → add f x nan ≡ nan
-unfolding add
-add-nan f nan = refl
-add-nan f (inf s) = refl
-add-nan f (fin s m e) = refl
-
-mul-nan : (f : Format) (x : Float) → mul f x nan ≡ nan
-unfolding mul
-mul-nan f nan = refl
-mul-nan f (inf s) = refl
-mul-nan f (fin s m e) = refl
-
-div-nan : (f : Format) (x : Float) → div f x nan ≡ nan
-unfolding div
-div-nan f nan = refl
-div-nan f (inf s) = refl
-div-nan f (fin s m e) = refl
-
-sub-nan : (f : Format) (x : Float) → sub f x nan ≡ nan
-unfolding sub neg
-sub-nan f x = add-nan f x
-
-nan-n : (f : Format) (kind : Arithmetic) (y z : Float) → apply f kind nan y z ≡ nan
-unfolding add sub mul div neg
-nan-n f MultiplyAccumulate y z = add-nan f z
-nan-n f MultiplySubtract y z = sub-nan f z
-nan-n f NegateMultiplySubtract y z = add-nan f (neg z)
-nan-n f NegateMultiplyAccumulate y z = sub-nan f (neg z)
-nan-n f Multiply y z = refl
-nan-n f NegateMultiply y z = refl
-nan-n f Add y z = refl
-nan-n f Subtract y z = refl
-nan-n f Divide y z = refl
-
-nan-m : (f : Format) (kind : Arithmetic) (x z : Float) → apply f kind x nan z ≡ nan
-unfolding neg
-nan-m f MultiplyAccumulate x z = ap (add f z) (mul-nan f x) ∙ add-nan f z
-nan-m f MultiplySubtract x z = ap (sub f z) (mul-nan f x) ∙ sub-nan f z
-nan-m f NegateMultiplySubtract x z = ap (add f (neg z)) (mul-nan f x) ∙ add-nan f (neg z)
-nan-m f NegateMultiplyAccumulate x z = ap (sub f (neg z)) (mul-nan f x) ∙ sub-nan f (neg z)
-nan-m f Multiply x z = mul-nan f x
-nan-m f NegateMultiply x z = ap neg (mul-nan f x)
-nan-m f Add x z = add-nan f x
-nan-m f Subtract x z = sub-nan f x
-nan-m f Divide x z = div-nan f x
-
-nan-d : (f : Format) (kind : Arithmetic) (x y : Float) → accumulates kind ≡ true → apply f kind x y nan ≡ nan
-unfolding add sub neg
-nan-d f MultiplyAccumulate x y h = refl
-nan-d f MultiplySubtract x y h = refl
-nan-d f NegateMultiplySubtract x y h = refl
-nan-d f NegateMultiplyAccumulate x y h = refl
-nan-d f Multiply x y h = cc
-nan-d f NegateMultiply x y h = cc
-nan-d f Add x y h = cc
-nan-d f Subtract x y h = cc
-nan-d f Divide x y h = cc
-
-word-of-value : (f : Format) (kind : Arithmetic) (n m d : ℕ) → applied f kind n m d ≡ toBits f (apply f kind (ofBits f n) (ofBits f m) (ofBits f d))
-unfolding applied toBits
-word-of-value f kind n m d = by (nanBits f n) (nanBits f m) (accumulates kind) (nanBits f d) (λ h. is-nan (ofBits f n) (sym (nanBits-is f n) ∙ h)) (λ h. is-nan (ofBits f m) (sym (nanBits-is f m) ∙ h)) refl (λ h. is-nan (ofBits f d) (sym (nanBits-is f d) ∙ h))
-  where
-    result : Float
-    result = apply f kind (ofBits f n) (ofBits f m) (ofBits f d)
-
-    by : (p q a r : Bool) → (p ≡ true → ofBits f n ≡ nan) → (q ≡ true → ofBits f m ≡ nan) → accumulates kind ≡ a → (r ≡ true → ofBits f d ≡ nan)
-        → cond (p || (q || (a && r))) (defaultNan f) (toBits f result) ≡ toBits f result
-    by true q a r x y g z = ap (toBits f) (sym (ap (λ (v : Float). apply f kind v (ofBits f m) (ofBits f d)) (x refl) ∙ nan-n f kind (ofBits f m) (ofBits f d)))
-    by false true a r x y g z = ap (toBits f) (sym (ap (λ (v : Float). apply f kind (ofBits f n) v (ofBits f d)) (y refl) ∙ nan-m f kind (ofBits f n) (ofBits f d)))
-    by false false true true x y g z = ap (toBits f) (sym (ap (λ (v : Float). apply f kind (ofBits f n) (ofBits f m) v) (z refl) ∙ nan-d f kind (ofBits f n) (ofBits f m) g))
-    by false false true false x y g z = refl
-    by false false false r x y g z = refl
 
 -- ---- conversions
 

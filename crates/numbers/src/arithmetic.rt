@@ -1,6 +1,6 @@
 // The arithmetic of one step. Each operator is a float's own and rounds once in its width.
 ghost use mathlib.Core.Path.{_≡_};
-ghost use lib.Ieee.{binary32, binary64};
+ghost use lib.Ieee.{binary32, binary64, ofBits};
 ghost use Rattle.numbers.specs.Arithmetic.{apply, accumulates, applied, arithmetic};
 use rounding::flush::flush32;
 use rounding::flush::flush64;
@@ -27,6 +27,11 @@ pub enum Arithmetic {
     Subtract,
     Divide,
 }
+
+// A NaN that comes out of arithmetic.
+const DEFAULT_NAN32: u32 = 0x7FC0_0000;
+
+const DEFAULT_NAN64: u64 = 0x7FF8_0000_0000_0000;
 
 // The operands n and m of one step, and the old d.
 struct Singles {
@@ -55,6 +60,27 @@ pub fn reads_d(kind: Arithmetic) -> bool
         Arithmetic::Add => false,
         Arithmetic::Subtract => false,
         Arithmetic::Divide => false,
+    }
+}
+
+// The operands of a step from their words, a d that the kind does not read too.
+fn operands32(n: u32, m: u32, d: u32) -> Singles
+    ensures { λ x. ⌜ (x .n ≡ ofBits binary32 n) × (x .m ≡ ofBits binary32 m) × (x .d ≡ ofBits binary32 d) ⌝ }
+{
+    Singles {
+        n: float32(n),
+        m: float32(m),
+        d: float32(d),
+    }
+}
+
+fn operands64(n: u64, m: u64, d: u64) -> Doubles
+    ensures { λ x. ⌜ (x .n ≡ ofBits binary64 n) × (x .m ≡ ofBits binary64 m) × (x .d ≡ ofBits binary64 d) ⌝ }
+{
+    Doubles {
+        n: float64(n),
+        m: float64(m),
+        d: float64(d),
     }
 }
 
@@ -96,61 +122,29 @@ fn apply64(kind: Arithmetic, x: Doubles) -> f64
     }
 }
 
-// The result before flushing. A NaN operand answers before any float is made, and old d is a float only where it is read.
+// The result before flushing. A NaN in n or m answers before any float is made; one in d is a NaN of the kinds that read it.
 pub fn applied32(kind: Arithmetic, n: u32, m: u32, d: u32) -> u32
     ensures { λ r. ⌜ r ≡ applied binary32 kind n m d ⌝ }
 {
     if is_nan32(n) {
-        return 0x7FC0_0000;
+        return DEFAULT_NAN32;
     }
     if is_nan32(m) {
-        return 0x7FC0_0000;
+        return DEFAULT_NAN32;
     }
-    if reads_d(kind) {
-        if is_nan32(d) {
-            return 0x7FC0_0000;
-        }
-        let x = Singles {
-            n: float32(n),
-            m: float32(m),
-            d: float32(d),
-        };
-        return bits32(apply32(kind, x));
-    }
-    let x = Singles {
-        n: float32(n),
-        m: float32(m),
-        d: 0.0,
-    };
-    bits32(apply32(kind, x))
+    bits32(apply32(kind, operands32(n, m, d)))
 }
 
 pub fn applied64(kind: Arithmetic, n: u64, m: u64, d: u64) -> u64
     ensures { λ r. ⌜ r ≡ applied binary64 kind n m d ⌝ }
 {
     if is_nan64(n) {
-        return 0x7FF8_0000_0000_0000;
+        return DEFAULT_NAN64;
     }
     if is_nan64(m) {
-        return 0x7FF8_0000_0000_0000;
+        return DEFAULT_NAN64;
     }
-    if reads_d(kind) {
-        if is_nan64(d) {
-            return 0x7FF8_0000_0000_0000;
-        }
-        let x = Doubles {
-            n: float64(n),
-            m: float64(m),
-            d: float64(d),
-        };
-        return bits64(apply64(kind, x));
-    }
-    let x = Doubles {
-        n: float64(n),
-        m: float64(m),
-        d: 0.0,
-    };
-    bits64(apply64(kind, x))
+    bits64(apply64(kind, operands64(n, m, d)))
 }
 
 pub fn arithmetic32(control: u32, kind: Arithmetic, n: u32, m: u32, d: u32) -> u32
