@@ -1,6 +1,4 @@
--- What a window mark reads as, and the marks that register transfers, the trees of loads and stores, and the words of doubles leave.
+-- The marks that the trees of loads and stores leave, and the words of doubles.
 
-mod Within
-mod Transfers
 mod Trees
 mod Doubles

@@ -1,8 +1,5 @@
-// The marks that register transfers, loads and stores leave, for the watched run: the machine's work is in crates `transfers` and `memory`.
+// The marks that loads, stores and pairs leave, for the watched run: the machine's work is in crate `memory`.
 mod pair;
-mod places;
-pub mod single;
-pub mod system;
 mod words;
 
 ghost use mathlib.Core.Path.{_≡_};

@@ -8,8 +8,6 @@ ghost use Rattle.meaning.specs.declared.Known.{Known};
 ghost use Rattle.meaning.specs.Map.{mapFrom};
 ghost use Rattle.meaning.specs.Step.{stepMarks};
 ghost use Rattle.memory.specs.LoadStore.{formatOf, pairOf, pairStep};
-use super::places::mark_single;
-use super::places::single_known;
 use bits::field::bit;
 use bits::field::bits;
 use machine::registers::Single;
@@ -17,6 +15,8 @@ use machine::registers::dreg;
 use machine::registers::sreg;
 use memory::halves::high_word;
 use memory::halves::low_word;
+use place_marks::places::mark_single;
+use place_marks::places::single_known;
 
 pub fn mark_pair(ks: &mut [bool; 32], kr: &mut [bool; 16], op: u32, double: bool)
     ensures { λ _. ⌜ ((k : Known) (w : List ℕ) → mapFrom (now (ks .exit)) (now (kr .exit)) k w ≡ stepMarks (pairStep (formatOf double) op) (mapFrom (now (ks .entry)) (now (kr .entry)) k w)) ⌝ }

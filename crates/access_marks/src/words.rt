@@ -9,13 +9,13 @@ ghost use Rattle.meaning.specs.declared.Known.{Known};
 ghost use Rattle.meaning.specs.Map.{mapFrom};
 ghost use Rattle.meaning.specs.Step.{afterMarks};
 ghost use Rattle.memory.specs.LoadStore.{accessAt};
-use super::places::mark_single;
-use super::places::mark_word;
-use super::places::single_known;
-use super::places::word_known;
 use bits::field::bit;
 use machine::address::plus;
 use machine::registers::Single;
+use place_marks::places::mark_single;
+use place_marks::places::mark_word;
+use place_marks::places::single_known;
+use place_marks::places::word_known;
 
 // By bit 20 of the word a load or a store.
 pub(crate) fn mark_words(

@@ -15,19 +15,20 @@ use Rattle.meaning.specs.Map.{Map, known}
 use Rattle.meaning.specs.Step.{step, nothing}
 use Rattle.meaning.specs.Stop.{Stop, foreign, Report, report, hangs, refused}
 use Rattle.meaning.specs.Tree.{Tree, stop, go, branch, ask, Next, on, last, halt, exitOf, plain, seen, watched}
-use Rattle.processing.specs.Operation.{Operation, operationOf, fmac, fnmac, fmsc, fnmsc, fmul, fnmul, fadd, fsub, fdiv, fcpy, fabs, fneg, fsqrt, fcmp, fcmpe, fcmpz, fcmpez, fcvt, fuito, fsito, ftoui, ftouiz, ftosi, ftosiz, undefined}
+use Rattle.decoding.specs.Operation.{Operation, operationOf, fmac, fnmac, fmsc, fnmsc, fmul, fnmul, fadd, fsub, fdiv, fcpy, fabs, fneg, fsqrt, fcmp, fcmpe, fcmpz, fcmpez, fcvt, fuito, fsito, ftoui, ftouiz, ftosi, ftosiz, undefined}
 use Rattle.processing.specs.Data.{operationTree, dataTree, undefinedTree}
 use Rattle.transfers.specs.declared.Transfer.{Transfer}
 use Rattle.transfers.specs.declared.Transfer.the-variants.{System, Single, Nothing}
 use Rattle.transfers.specs.Transfer.{transferTree, transferOf, transferBy, systemTree, singleTree}
 use Rattle.memory.specs.LoadStore.{accessTree, loadStoreTree}
 use Rattle.limits.specs.Limit.{runLimit}
-use Rattle.run.specs.Word.{foreignWord, classTree, conditioned, meaning}
+use Rattle.run_word.specs.Word.{foreignWord, classTree, conditioned, meaning}
 use Rattle.run.specs.declared.Ran.{Ran}
 use Rattle.watch.specs.declared.Watched.{Watched}
 use Rattle.watch.specs.Watch.{limitOf, watchReply}
 use Rattle.limits.proofs.Limits.{run-within, list-within}
 use Rattle.run.specs.Run as Run
+use Rattle.run_word.specs.Stop.{stopOf}
 use Rattle.watch.specs.Watch as Watch
 use Rattle.meaning.specs.Run as R
 
@@ -209,7 +210,7 @@ run-fits base list st = by (eqb n 0) refl
         (omega (arith, b .1, l), omega (arith, b .0 .0))
     by false e = (omega arith, omega arith)
 
-pub ran-fits : (base : ℕ) (list : List ℕ) (st : State) (x : Ran) (w : List ℕ) → Run.answered x w ≡ Run.runReply base list st → Fits (report (Run.stopOf (x .stop))) (x .count)
+pub ran-fits : (base : ℕ) (list : List ℕ) (st : State) (x : Ran) (w : List ℕ) → Run.answered x w ≡ Run.runReply base list st → Fits (report (stopOf (x .stop))) (x .count)
 ran-fits base list st x w e = subst (λ (y : Run.Reply). Fits (y .report) (y .count)) (sym e) (run-fits base list st)
 
 watch-fits : (base : ℕ) (list : List ℕ) (st : State) (μ : Map) → Fits (watchReply base list st μ .report) (watchReply base list st μ .count)
@@ -230,5 +231,5 @@ watch-fits base list st μ = by (eqb n 0) refl
     by false e = (omega arith, omega arith)
 
 pub watched-fits : (base : ℕ) (list : List ℕ) (st : State) (μ : Map) (x : Watched) (w v : List ℕ) → Watch.answered x w v ≡ watchReply base list st μ
-    → Fits (report (Run.stopOf (x .stop))) (x .count)
+    → Fits (report (stopOf (x .stop))) (x .count)
 watched-fits base list st μ x w v e = subst (λ (y : Watch.Reply). Fits (y .report) (y .count)) (sym e) (watch-fits base list st μ)

@@ -5,9 +5,9 @@ ghost use Prim.Native.Nat.{_^_, _<_};
 ghost use lib.ListN.{length};
 ghost use Rattle.meaning.specs.Stop.{report};
 ghost use Rattle.vfp.specs.Call.{exitReport};
-ghost use Rattle.run.specs.Run.{stopOf};
+ghost use Rattle.run_word.specs.Stop.{stopOf};
 ghost use Rattle.answer.specs.Answer.{answerOf};
-use run::Stop;
+use run_word::Stop;
 use vfp::Exit;
 
 // The kind of an exit; the values that it has go into the answer.

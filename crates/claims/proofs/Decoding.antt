@@ -4,7 +4,7 @@ use Prim.Native.Nat.{ℕ, _+_, _*_, _/_, _%_, _^_, _<_}
 use native.Mathlib.Omega.{arith}
 use Rattle.bits.specs.Field.{field}
 use Rattle.meaning.specs.Tree.{plain}
-use Rattle.processing.specs.Operation.{arithmetics, extensionBy, operationBy, operationOf, operationAt, indexOf}
+use Rattle.decoding.specs.Operation.{arithmetics, extensionBy, operationBy, operationOf, operationAt, indexOf}
 use Rattle.processing.specs.Data.{operationTree, dataTree}
 use Rattle.claims.specs.Decoding.{undefinedBelow, Decoding}
 

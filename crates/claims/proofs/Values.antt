@@ -10,7 +10,7 @@ use Rattle.numbers.specs.Integer.{integerOf, toInteger}
 use Rattle.meaning.specs.Step.{after}
 use Rattle.meaning.specs.Tree.{plain}
 use Rattle.memory.specs.LoadStore.{accessTree, loadStoreTree}
-use Rattle.processing.specs.Operation.{extensionBy, operationBy, operationOf}
+use Rattle.decoding.specs.Operation.{extensionBy, operationBy, operationOf}
 use Rattle.short_vectors.specs.Vector.{stepOf, secondOf}
 use Rattle.processing.specs.Data.{operationTree, dataTree}
 use Rattle.limits.specs.Limit.{windowLimit}

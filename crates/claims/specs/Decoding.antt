@@ -7,7 +7,7 @@ use Rattle.machine.specs.declared.Machine.{Machine}
 use Rattle.machine.specs.Place.{state}
 use Rattle.meaning.specs.Stop as Stop
 use Rattle.meaning.specs.Stop.{report}
-use Rattle.processing.specs.Operation.{Operation, operationOf, operationAt, indexOf, fmac, fnmac, fmsc, fnmsc, fmul, fnmul, fadd, fsub, fdiv, fcpy, fabs, fneg, fsqrt, fcmp, fcmpe, fcmpz, fcmpez, fcvt, fuito, fsito, ftoui, ftouiz, ftosi, ftosiz, undefined}
+use Rattle.decoding.specs.Operation.{Operation, operationOf, operationAt, indexOf, fmac, fnmac, fmsc, fnmsc, fmul, fnmul, fadd, fsub, fdiv, fcpy, fabs, fneg, fsqrt, fcmp, fcmpe, fcmpz, fcmpez, fcvt, fuito, fsito, ftoui, ftouiz, ftosi, ftosiz, undefined}
 use Rattle.processing.specs.Data.{behind, dataTree}
 use Rattle.vfp.specs.Call.{reply}
 

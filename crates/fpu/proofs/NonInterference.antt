@@ -15,7 +15,7 @@ use Rattle.machine.specs.Place.{Place, word, place, before, State, get, state}
 use Rattle.meaning.specs.declared.Marks.{Marks}
 use Rattle.meaning.specs.Map.{Map, known, mapOf}
 use Rattle.meaning.specs.Stop.{Report, report, refused}
-use Rattle.run.specs.Word.{meaning}
+use Rattle.run_word.specs.Word.{meaning}
 use Rattle.watch.specs.Watch.{Reply, limitOf, watchReply}
 use Rattle.watch.specs.Demand.{Agree, Mapped}
 use Rattle.watch.specs.Demand as D

@@ -10,7 +10,8 @@ use Rattle.machine.specs.declared.Machine.{Machine}
 use Rattle.machine.specs.Place.{State, state}
 use Rattle.meaning.specs.Stop.{report}
 use Rattle.run.specs.declared.Ran.{Ran}
-use Rattle.run.specs.Run.{Reply, stopOf, answered}
+use Rattle.run_word.specs.Stop.{stopOf}
+use Rattle.run.specs.Run.{Reply, answered}
 use Rattle.layout.specs.State.{encode, decode}
 use Rattle.answer.specs.Answer.{answerOf}
 use Rattle.fpu.specs.Outcome.{outcome, invalidArgument, validCall, decodedState, ran}

@@ -12,7 +12,7 @@ use Rattle.machine.specs.Place.{state}
 use Rattle.meaning.specs.declared.Marks.{Marks}
 use Rattle.meaning.specs.Map.{mapOf}
 use Rattle.meaning.specs.Stop.{report}
-use Rattle.run.specs.Run.{stopOf}
+use Rattle.run_word.specs.Stop.{stopOf}
 use Rattle.watch.specs.declared.Watched.{Watched}
 use Rattle.watch.specs.Watch.{answered, watchReply}
 use Rattle.watch.specs.Demand.{Promise}

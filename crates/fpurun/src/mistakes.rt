@@ -3,7 +3,7 @@ use super::output::low;
 use super::output::say;
 use libc::STDOUT_FILENO;
 use listing::line::Expected;
-use listing::text::Text;
+use text::text::Text;
 
 pub enum Mistake {
     Item(Expected),

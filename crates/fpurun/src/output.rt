@@ -1,6 +1,6 @@
 // Texts to standard output.
 use libc::STDOUT_FILENO;
-use listing::text::Text;
+use text::text::Text;
 
 pub fn say(t: Text) {
     let n = t.count;

@@ -2,11 +2,11 @@
 use super::output::low;
 use super::output::say;
 use libc::STDOUT_FILENO;
-use listing::text::Text;
 use machine::place::FLAGS;
 use machine::place::NZCV;
 use machine::place::PC;
 use machine::place::WINDOW;
+use text::text::Text;
 
 fn text(b: &[u8]) {
     io::write_all(STDOUT_FILENO, b);

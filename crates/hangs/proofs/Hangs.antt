@@ -12,10 +12,10 @@ use Rattle.meaning.specs.Map.{Map, known}
 use Rattle.meaning.specs.Step.{Step, nothing}
 use Rattle.meaning.specs.Tree.{Tree, go}
 use Rattle.meaning.specs.Hang.{Hang, clear, at, hangOf}
-use Rattle.processing.specs.Operation as O
-use Rattle.processing.specs.Operation.{Operation, extensionBy, operationOf}
+use Rattle.decoding.specs.Operation as O
+use Rattle.decoding.specs.Operation.{Operation, extensionBy, operationOf}
 use Rattle.meaning.proofs.Laws.{clear-go}
-use Rattle.processing.specs.Fields.{regD}
+use Rattle.decoding.specs.Fields.{regD}
 use Rattle.processing.specs.Data.{stepping, undefinedTree, operationTree, extensionTree, dataTree}
 use Rattle.memory.specs.LoadStore.{accessTree, loadStoreTree}
 use Rattle.transfers.specs.declared.Transfer.{Transfer}

@@ -13,10 +13,10 @@ use super::Hang;
 use super::asked;
 use bits::field::bit;
 use bits::field::bits;
+use decoding::fields::kind;
 use machine::place::CONTROL;
 use machine::place::PC;
 use meaning::Known;
-use processing::fields::kind;
 
 // Data processing hangs on FPSCR 27:0 or on r15; where both are known, as they mostly are, the word need not be looked at. By the
 // coprocessor: any but 10 and 11 is Undefined.

@@ -5,14 +5,14 @@ use mathlib.Core.Bool.{Bool, true, false}
 use mathlib.Core.List.{List}
 use lib.ListN.{length, take, drop}
 use borrow.Author.Tests.{eq-eqb, ne-eqb}
-use Rattle.listing.specs.declared.number.Number.{Number}
-use Rattle.listing.specs.declared.number.Number.the-variants.{Value, Wrong}
+use Rattle.numerals.specs.declared.number.Number.{Number}
+use Rattle.numerals.specs.declared.number.Number.the-variants.{Value, Wrong}
 use Rattle.listing.specs.declared.line.Item.{Item}
 use Rattle.listing.specs.Token.{leadingOf}
 use Rattle.listing.specs.Line.{startOf, endOf, firstOf, restOf, blank, given}
-use Rattle.listing.specs.Place.{same}
-use Rattle.listing.proofs.Reading.{rest}
-use Rattle.listing.proofs.Names.{compared}
+use Rattle.place_names.specs.Place.{same}
+use Rattle.numerals.proofs.Reading.{rest}
+use Rattle.place_names.proofs.Names.{compared}
 
 module _ (l : List ℕ) (s e : ℕ) (h : (s ≤ e) × (e ≤ length l) × (s ≡ leadingOf true l) × (e ≡ s + leadingOf false (drop s l))) where
   end-is : e ≡ endOf l

@@ -8,7 +8,7 @@ use mathlib.Core.List.{List}
 use lib.ListN.{length, getD, take, drop, length-drop, length-take, drop-of-length-le}
 use lib.Seq.{drop-cons}
 use borrow.Author.Tests.{eq-eqb, ne-eqb, lt-ltb, le-ltb}
-use Rattle.listing.proofs.Reading.{rest}
+use Rattle.numerals.proofs.Reading.{rest}
 use Rattle.listing.specs.declared.line.Next.the-variants.{Place, End, Mistake}
 use Rattle.listing.specs.Token.{beforeOf, contentOf, isGap, leadingOf}
 

@@ -1,6 +1,3 @@
 -- What a text says: numbers, places and words, and the text that is printed.
 pub mod Line
-pub mod Number
-pub mod Place
-pub mod Text
 pub mod Token

@@ -5,13 +5,13 @@ use mathlib.Core.List.{List, [], _∷_}
 use lib.Dec.{eqb, ltb}
 use lib.ListN.{length, take, drop}
 use Rattle.machine.specs.Place.{control, number, place}
-use Rattle.listing.specs.declared.number.Number.{Number}
-use Rattle.listing.specs.declared.number.Number.the-variants.{Value, Wrong}
+use Rattle.numerals.specs.declared.number.Number.{Number}
+use Rattle.numerals.specs.declared.number.Number.the-variants.{Value, Wrong}
 use Rattle.listing.specs.declared.line.Item.{Item}
 use Rattle.listing.specs.declared.line.Item.the-variants.{Nothing, Word, Set, Unknown, Window, Mistake}
 use Rattle.listing.specs.declared.line.Expected.the-variants as expected
-use Rattle.listing.specs.Number.{hexOf, decimalOf, valueOf}
-use Rattle.listing.specs.Place.{placeOf, same, width}
+use Rattle.numerals.specs.Number.{hexOf, decimalOf, valueOf}
+use Rattle.place_names.specs.Place.{placeOf, same, width}
 use Rattle.listing.specs.Token.{leadingOf}
 
 -- where a line's first word starts and ends, the word, and what follows it

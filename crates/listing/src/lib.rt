@@ -1,6 +1,3 @@
 // The text of a list: numbers, places and lines, read from bytes and printed into a text of limited length.
 pub mod line;
-pub mod number;
-pub mod place;
-pub mod text;
 pub mod token;

@@ -3,14 +3,14 @@ ghost use mathlib.Core.Path.{_≡_};
 ghost use Prim.Native.Nat.{ℕ, _≤_, _<_};
 ghost use lib.ListN.{length};
 ghost use Rattle.listing.specs.Line.{itemOf, endedOf, setOf, setTo, windowOf, windowFrom, unknownOf};
-use super::number::Number;
-use super::number::decimal_of;
-use super::number::hex_of;
-use super::number::value_of;
-use super::place::CONTROL;
-use super::place::fits;
-use super::place::place_of;
 use super::token::first;
+use numerals::number::Number;
+use numerals::number::decimal_of;
+use numerals::number::hex_of;
+use numerals::number::value_of;
+use place_names::place::CONTROL;
+use place_names::place::fits;
+use place_names::place::place_of;
 
 // What a line should have had.
 pub enum Expected {

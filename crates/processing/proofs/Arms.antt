@@ -15,8 +15,8 @@ use Rattle.steps.specs.Root.{rootStep}
 use Rattle.steps.specs.Compare.{compareStep, compareZeroStep}
 use Rattle.conversions.specs.Width.{widenStep, narrowStep}
 use Rattle.conversions.specs.Integer.{fromStep, truncateStep, roundStep}
-use Rattle.processing.specs.Fields.{regD, regM}
-use Rattle.processing.specs.Operation.{extensionBy}
+use Rattle.decoding.specs.Fields.{regD, regM}
+use Rattle.decoding.specs.Operation.{extensionBy}
 use Rattle.processing.specs.Data.{operationTree, monadic, extensionTree, integerTree, Handled}
 use Rattle.processing.specs.declared.Processed.the-variants.{Done, Undefined}
 use Rattle.processing.proofs.Done.{monadic-done, once-done, handled-as, extension-is, compare-either, compare-zero-either, from-either, unsigned-either, signed-either}

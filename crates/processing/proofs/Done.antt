@@ -20,8 +20,8 @@ use Rattle.processing.specs.declared.Processed.{Processed}
 use Rattle.processing.specs.declared.Processed.the-variants.{Done, Undefined}
 use Rattle.short_vectors.specs.Vector.{iterationsOf, monadicStep}
 use Rattle.short_vectors.specs.Register.{SteppedWith, Iterated}
-use Rattle.processing.specs.Fields.{regD, regN, regM, kindOf, kinds, arithmeticAt}
-use Rattle.processing.specs.Operation.{undefined, extensionBy, arithmetics, operationBy, operationOf}
+use Rattle.decoding.specs.Fields.{regD, regN, regM, kindOf, kinds, arithmeticAt}
+use Rattle.decoding.specs.Operation.{undefined, extensionBy, arithmetics, operationBy, operationOf}
 use Rattle.arithmetic_steps.specs.Arithmetic.{dyadicStep}
 use Rattle.steps.specs.Compare.{compareStep, compareZeroStep}
 use Rattle.conversions.specs.Integer.{fromStep}
@@ -123,11 +123,6 @@ module _ (f : Format) (w : ℕ) (thumb : Bool) where
   pub word-none : (k : ℕ) → k ≡ kindOf w → 9 ≤ k → (k ≡ 15 → ⊥) → wordTree f w thumb ≡ undefinedTree thumb w
   unfolding operationOf operationBy operationTree arithmetics
   word-none k p h e = rw (← p, ne-eqb _ _ e, List·getD-eq-default arithmetics undefined h)
-
--- every kind from 8 on is a division
-pub divide-from : (k : ℕ) → 8 ≤ k → Divide ≡ arithmeticAt k
-unfolding arithmeticAt
-divide-from k h = sym (List·getD-eq-default kinds Divide h)
 
 -- ---- the coprocessor
 

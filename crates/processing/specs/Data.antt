@@ -22,8 +22,8 @@ use Rattle.steps.specs.Root.{rootStep}
 use Rattle.steps.specs.Compare.{compareStep, compareZeroStep}
 use Rattle.conversions.specs.Width.{widenStep, narrowStep}
 use Rattle.conversions.specs.Integer.{fromStep, truncateStep, roundStep}
-use Rattle.processing.specs.Fields.{regD, regN, regM, arithmeticAt}
-use Rattle.processing.specs.Operation.{Operation, extensionBy, operationOf, fmac, fnmac, fmsc, fnmsc, fmul, fnmul, fadd, fsub, fdiv, fcpy, fabs, fneg, fsqrt, fcmp, fcmpe, fcmpz, fcmpez, fcvt, fuito, fsito, ftoui, ftouiz, ftosi, ftosiz, undefined}
+use Rattle.decoding.specs.Fields.{regD, regN, regM, arithmeticAt}
+use Rattle.decoding.specs.Operation.{Operation, extensionBy, operationOf, fmac, fnmac, fmsc, fnmsc, fmul, fnmul, fadd, fsub, fdiv, fcpy, fabs, fneg, fsqrt, fcmp, fcmpe, fcmpz, fcmpez, fcvt, fuito, fsito, ftoui, ftouiz, ftosi, ftosiz, undefined}
 use Rattle.processing.specs.declared.Processed.{Processed}
 use Rattle.processing.specs.declared.Processed.the-variants.{Done, Undefined}
 

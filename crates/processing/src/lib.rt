@@ -1,6 +1,5 @@
 // Data processing over lent singles: the arithmetic and the extension group, in both precisions.
 mod double;
-pub mod fields;
 mod single;
 
 ghost use Rattle.processing.specs.Data.{dataTree, Handled};

@@ -20,10 +20,10 @@ use Rattle.steps.specs.declared.sign.SignOperation.{SignOperation}
 use Rattle.steps.specs.declared.sign.SignOperation.the-variants.{Copy, Absolute, Negate}
 use Rattle.processing.proofs.Done.{extension-is}
 use Rattle.short_vectors.specs.Vector.{iterationsOf, monadicStep}
-use Rattle.processing.specs.Operation.{extensionBy}
+use Rattle.decoding.specs.Operation.{extensionBy}
 use Rattle.steps.specs.Sign.{signStep}
 use Rattle.arithmetic_steps.specs.Arithmetic.{dyadicStep}
-use Rattle.processing.specs.Fields.{regD, regN, regM}
+use Rattle.decoding.specs.Fields.{regD, regN, regM}
 use Rattle.processing.specs.Data.{stepping, dyadic, monadic, undefinedTree, operationTree, extensionTree}
 use Rattle.processing_marks.specs.Marked.{Marked, MarksIterated}
 

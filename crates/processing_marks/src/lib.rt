@@ -10,9 +10,9 @@ ghost use Rattle.processing.specs.Data.{dataTree, wordTree, extensionTree, inte
 ghost use Rattle.processing_marks.specs.Marked.{Marked, flagged, convertTree};
 use bits::field::bit;
 use bits::field::bits;
+use decoding::fields::arithmetic_of;
+use decoding::fields::kind;
 use meaning::Known;
-use processing::fields::arithmetic_of;
-use processing::fields::kind;
 use register::known;
 use register::mark;
 use register::reg_d;

@@ -3,16 +3,16 @@ ghost use mathlib.Core.Path.{_≡_};
 ghost use Prim.Native.Nat.{_<_};
 ghost use Rattle.short_vectors.specs.Vector.{precision};
 ghost use Rattle.arithmetic_steps.specs.Arithmetic.{operands};
-ghost use Rattle.processing.specs.Fields.{regD, regN, regM};
+ghost use Rattle.decoding.specs.Fields.{regD, regN, regM};
 ghost use Rattle.processing_marks.specs.Register.{knownIn, allIn, markIn, copyIn};
+use decoding::fields::double_d;
+use decoding::fields::double_m;
+use decoding::fields::double_n;
+use decoding::fields::single_d;
+use decoding::fields::single_m;
+use decoding::fields::single_n;
 use numbers::arithmetic::Arithmetic;
 use numbers::arithmetic::reads_d;
-use processing::fields::double_d;
-use processing::fields::double_m;
-use processing::fields::double_n;
-use processing::fields::single_d;
-use processing::fields::single_m;
-use processing::fields::single_n;
 
 pub(crate) fn known(ks: &[bool; 32], double: bool, n: usize) -> bool
     ensures { λ b. ⌜ b ≡ knownIn (precision double) (now (ks .entry)) n ⌝ }

@@ -10,11 +10,12 @@ use Rattle.machine.specs.Machine.{assembled, controlsOf}
 use Rattle.machine.specs.Place.{State, state}
 use Rattle.meaning.specs.Stop.{report}
 use Rattle.meaning.specs.Run.{Ended, ended, run}
-use Rattle.run.specs.declared.Stop.{Stop}
+use Rattle.run_word.specs.declared.Stop.{Stop}
 use Rattle.run.specs.declared.Ran.{Ran}
 use Rattle.limits.specs.Limit.{runLimit}
-use Rattle.run.specs.Word.{meaning}
-use Rattle.run.specs.Run.{Reply, stopOf, answered, reply, runReply}
+use Rattle.run_word.specs.Word.{meaning}
+use Rattle.run_word.specs.Stop.{stopOf}
+use Rattle.run.specs.Run.{Reply, answered, reply, runReply}
 use Rattle.meaning.specs.Stop as S
 
 -- an answer of these parts

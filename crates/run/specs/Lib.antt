@@ -1,3 +1,2 @@
 -- What a run promises.
-pub mod Word
 pub mod Run

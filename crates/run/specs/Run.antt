@@ -7,29 +7,11 @@ use lib.ListN.{length}
 use Rattle.machine.specs.Place.{State, state}
 use Rattle.meaning.specs.Stop as S
 use Rattle.meaning.specs.Stop.{Report, report}
-use Rattle.meaning.specs.Tree as T
 use Rattle.meaning.specs.Run.{Ended, run}
-use Rattle.run.specs.declared.Stop.{Stop}
-use Rattle.run.specs.declared.Stop.the-variants.{Finished, Foreign, Undefined, Branched, Hangs, Refused}
-use Rattle.run.specs.declared.Next.{Next}
-use Rattle.run.specs.declared.Next.the-variants.{On, Last, Halt}
 use Rattle.run.specs.declared.Ran.{Ran}
 use Rattle.limits.specs.Limit.{runLimit}
-use Rattle.run.specs.Word.{meaning}
-
--- the kind and the values of the code's stop; `report` gives their numbers
-abbrev pub stopOf : Stop → S.Stop
-stopOf Finished = S.finished
-stopOf Foreign = S.foreign
-stopOf (Undefined pc opcode) = S.undefined pc opcode
-stopOf Branched = S.branched
-stopOf (Hangs place) = S.hangs place
-stopOf (Refused n) = S.refused n
-
-abbrev pub nextOf : Next → T.Next
-nextOf On = T.on
-nextOf Last = T.last
-nextOf (Halt s) = T.halt (stopOf s)
+use Rattle.run_word.specs.Stop.{stopOf}
+use Rattle.run_word.specs.Word.{meaning}
 
 -- a report and a count, with the machine and the window that are left
 pub record Reply : Type 0 where

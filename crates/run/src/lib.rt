@@ -1,36 +1,20 @@
 // The plain run over a list of instruction words.
 pub mod progress;
 pub mod rest;
-pub mod word;
 
 ghost use mathlib.Core.Path.{_≡_};
 ghost use mathlib.Core.Bool.{false};
 ghost use Rattle.machine.specs.Place.{state};
 ghost use Rattle.meaning.specs.Run as R;
-ghost use Rattle.run.specs.Word.{meaning};
+ghost use Rattle.run_word.specs.Word.{meaning};
 ghost use Rattle.run.specs.Run.{answered, reply, runReply};
 use limits::limit::run_limit;
 use machine::Machine;
 use progress::Progress;
-use word::advance;
-use word::execute;
-
-// Why a run stopped. A plain run never hangs.
-pub enum Stop {
-    Finished,
-    Foreign,
-    Undefined { pc: u32, opcode: u32 },
-    Branched,
-    Hangs(usize),
-    Refused(u8),
-}
-
-// What follows a word: the next one, a stop after it, or a stop before it.
-pub enum Next {
-    On,
-    Last,
-    Halt(Stop),
-}
+use run_word::Next;
+use run_word::Stop;
+use run_word::word::advance;
+use run_word::word::execute;
 
 // The stop, how many words were counted, and the machine handed back.
 pub struct Ran {

@@ -3,9 +3,9 @@ ghost use mathlib.Core.Path.{_≡_};
 ghost use mathlib.Core.Bool.{false};
 ghost use Rattle.machine.specs.Machine.{assembled, controlsOf};
 use super::Ran;
-use super::Stop;
 use machine::Controls;
 use machine::Machine;
+use run_word::Stop;
 
 pub struct Progress {
     pub s: [u32; 32],

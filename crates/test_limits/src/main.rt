@@ -5,7 +5,7 @@ mod watched;
 ghost use Prim.Native.Nat.{_≤_};
 use libc::STDOUT_FILENO;
 use machine::Machine;
-use run::Stop;
+use run_word::Stop;
 
 // FCPYS s0, s0
 const HARMLESS: u32 = 0xEEB0_0A40;

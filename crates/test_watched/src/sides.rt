@@ -8,7 +8,7 @@ use machine::place::FLAGS;
 use machine::place::NZCV;
 use machine::place::WINDOW;
 use meaning::Marks;
-use run::Stop;
+use run_word::Stop;
 use watch::watch;
 
 pub struct Side {

@@ -15,7 +15,7 @@ use Rattle.meaning.specs.Map.{Map, known}
 use Rattle.meaning.specs.Stop.{report, refused}
 use Rattle.meaning.proofs.TwoRuns.{two-runs}
 use Rattle.meaning.proofs.Prefix.{prefix}
-use Rattle.run.specs.Word.{meaning}
+use Rattle.run_word.specs.Word.{meaning}
 use Rattle.watch.specs.Watch.{Reply, reply, limitOf, watchReply}
 use Rattle.watch.specs.Demand.{Agree, Alike, Mapped, Plainly, Demand3, Promise}
 use Rattle.limits.proofs.Limits.{run-within, marks-within, shorter}

@@ -1,5 +1,4 @@
 -- Laws of the crate's proofs, and demand 3.
 
-mod Worded
 mod Replies
 pub mod Demanded

@@ -11,8 +11,8 @@ use Rattle.meaning.specs.declared.Marks.{Marks}
 use Rattle.meaning.specs.declared.Known.{Known}
 use Rattle.meaning.specs.Map.{Map, mapOf, mapFrom, knownOf}
 use Rattle.meaning.specs.Tree.{Tree}
-use Rattle.run.specs.declared.Stop.{Stop}
-use Rattle.run.specs.Run.{stopOf}
+use Rattle.run_word.specs.declared.Stop.{Stop}
+use Rattle.run_word.specs.Stop.{stopOf}
 use Rattle.run.proofs.Replies.{whole}
 use Rattle.watch.specs.declared.Watched.{Watched}
 use Rattle.watch.specs.Watch.{answered, reply}

@@ -8,16 +8,10 @@ use Rattle.machine.specs.Place.{State, state}
 use Rattle.meaning.specs.Map.{Map, mapOf}
 use Rattle.meaning.specs.Stop.{Report, report, refused}
 use Rattle.meaning.specs.Run as R
-use Rattle.run.specs.Word.{meaning}
-use Rattle.run.specs.Run.{stopOf}
-use Rattle.meaning.specs.declared.Known.{Known}
-use Rattle.watch.specs.declared.word.Seen.{Seen}
+use Rattle.run_word.specs.Word.{meaning}
+use Rattle.run_word.specs.Stop.{stopOf}
 use Rattle.watch.specs.declared.Watched.{Watched}
 use Rattle.limits.specs.Limit.{watchLimit}
-
--- the marks that are no array, as a word leaves them
-abbrev pub marksOf : Seen → Known
-marksOf e = record { flags = e .flags; control = e .control; exc = e .exc; nzcv = e .nzcv }
 
 -- a report and a count, with the machine, the window and the map that are left
 pub record Reply : Type 0 where

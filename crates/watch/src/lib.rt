@@ -1,24 +1,22 @@
 // The watched run: the plain run with a map, which stops where the outcome would hang on an unknown place.
-pub mod word;
-
 ghost use mathlib.Core.Path.{_≡_};
 ghost use mathlib.Core.Bool.{false};
 ghost use Rattle.machine.specs.Place.{state};
 ghost use Rattle.machine.specs.Machine.{assembled};
 ghost use Rattle.meaning.specs.Map.{mapOf, marksFrom, knownOf};
 ghost use Rattle.meaning.specs.Run as R;
-ghost use Rattle.run.specs.Word.{meaning};
+ghost use Rattle.run_word.specs.Word.{meaning};
 ghost use Rattle.watch.specs.Watch.{answered, reply};
 ghost use Rattle.watch.specs.Demand.{Promise};
 use limits::limit::watch_limit;
 use machine::Machine;
 use meaning::Known;
 use meaning::Marks;
-use run::Next;
-use run::Stop;
 use run::progress::Progress;
-use run::word::advance;
-use word::watch_word;
+use run_word::Next;
+use run_word::Stop;
+use run_word::word::advance;
+use watch_word::word::watch_word;
 
 // The stop, how many words were counted, and the machine and the marks handed back.
 pub struct Watched {

@@ -14,10 +14,10 @@ use Rattle.meaning.specs.Map.{Map, mapOf, known, mark}
 use Rattle.meaning.specs.Step.{after, afterMarks}
 use Rattle.meaning.specs.Tree.{watched}
 use Rattle.processing.specs.Data.{operationTree, dataTree}
-use Rattle.processing.specs.Operation.{extensionBy, arithmetics, operationBy, operationOf}
+use Rattle.decoding.specs.Operation.{extensionBy, arithmetics, operationBy, operationOf}
 use Rattle.short_vectors.specs.Vector.{stepOf, secondOf}
 use Rattle.memory.specs.LoadStore.{accessTree, loadStoreTree}
-use Rattle.run.specs.Word.{classTree, conditioned, meaning}
+use Rattle.run_word.specs.Word.{classTree, conditioned, meaning}
 use Rattle.transfers.specs.Transfer.{transferTree}
 
 -- places by number: the targets are known just when all the sources are

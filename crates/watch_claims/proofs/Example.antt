@@ -12,11 +12,11 @@ use Rattle.meaning.specs.Step.{after, afterMarks}
 use Rattle.meaning.specs.Stop.{report, hangs}
 use Rattle.meaning.specs.Tree.{watched}
 use Rattle.processing.specs.Data.{operationTree, dataTree}
-use Rattle.processing.specs.Operation.{extensionBy, arithmetics, operationBy, operationOf, operationAt}
+use Rattle.decoding.specs.Operation.{extensionBy, arithmetics, operationBy, operationOf, operationAt}
 use Rattle.short_vectors.specs.Vector.{stepOf, secondOf}
 use Rattle.limits.specs.Marks.{bitsOnly}
 use Rattle.limits.specs.Limit.{windowLimit, runLimit, watchLimit}
-use Rattle.run.specs.Word.{classTree, conditioned, meaning}
+use Rattle.run_word.specs.Word.{classTree, conditioned, meaning}
 use Rattle.transfers.specs.Transfer.{transferTree}
 use Rattle.watch.specs.Watch.{Reply, watchReply}
 

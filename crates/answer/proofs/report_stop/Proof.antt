@@ -3,8 +3,8 @@ use Prim.Native.Nat.{_<_, _^_}
 use native.Mathlib.Omega.{arith}
 use mathlib.Core.Path.{subst}
 use borrow.Author.Needs.{needs}
-use Rattle.run.specs.declared.Stop.{Stop}
-use Rattle.run.specs.Run.{stopOf}
+use Rattle.run_word.specs.declared.Stop.{Stop}
+use Rattle.run_word.specs.Stop.{stopOf}
 use Rattle.meaning.specs.Stop.{report}
 use Rattle.answer.proofs.report_stop.Statement.{statement}
 use Rattle.answer.proofs.report_stop.Tie as tie

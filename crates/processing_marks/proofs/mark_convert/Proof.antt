@@ -5,7 +5,7 @@ use denote.Ref.{now}
 use borrow.Author.Needs.{needs}
 use Rattle.processing_marks.specs.Marked.{convertTree}
 use Rattle.conversions.specs.Width.{narrowStep, widenStep}
-use Rattle.processing.specs.Fields.{regD, regM}
+use Rattle.decoding.specs.Fields.{regD, regM}
 use Rattle.processing_marks.proofs.Done.{once-marked}
 use Rattle.processing_marks.proofs.Steps.{narrow-marks, widen-marks}
 use Rattle.processing_marks.proofs.mark_convert.Statement.{statement}

@@ -9,9 +9,9 @@ use Rattle.processing.proofs.Done.{extension-is, compare-either, compare-zero-e
 use Rattle.steps.specs.Root.{rootStep}
 use Rattle.steps.specs.Compare.{compareStep, compareZeroStep}
 use Rattle.conversions.specs.Integer.{fromStep}
-use Rattle.processing.specs.Fields.{regD, regM}
+use Rattle.decoding.specs.Fields.{regD, regM}
 use Rattle.processing.specs.Data.{extensionTree, integerTree, operationTree}
-use Rattle.processing.specs.Operation.{extensionBy}
+use Rattle.decoding.specs.Operation.{extensionBy}
 use Rattle.processing_marks.specs.Marked.{convertTree}
 use Rattle.steps.specs.Sign.{signStep}
 use denote.Ref.{now}

@@ -5,7 +5,7 @@ use mathlib.Core.Path.{refl, sym}
 use denote.Ref.{now}
 use borrow.Author.Needs.{needs}
 use Rattle.conversions.specs.Integer.{truncateStep, roundStep}
-use Rattle.processing.specs.Fields.{regD, regM}
+use Rattle.decoding.specs.Fields.{regD, regM}
 use Rattle.processing.specs.Data.{integerTree}
 use Rattle.processing_marks.proofs.Done.{once-marked}
 use Rattle.processing_marks.proofs.Steps.{truncate-marks, round-marks}

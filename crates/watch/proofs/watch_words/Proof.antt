@@ -5,7 +5,7 @@ use Rattle.meaning.specs.Map.{mapFrom}
 use Rattle.watch.proofs.Replies.{answered-as, begun}
 use Rattle.meaning.proofs.Laws.{watch-on, watch-last, watch-halt, watch-end}
 use Rattle.meaning.specs.Run.{watch}
-use Rattle.run.specs.Word.{meaning}
+use Rattle.run_word.specs.Word.{meaning}
 use denote.Ref.{now}
 use mathlib.Core.Path.{_≡_, refl, _∙_}
 use mathlib.Core.Bool.{false}
@@ -16,10 +16,10 @@ use Prim.Native.Nat.{_≤_, _-_}
 use Rattle.watch.proofs.watch_words.Reads as reads
 use Rattle.watch.proofs.watch_words.Lts as lts
 use Rattle.run.proofs.progress.Progress.new.Reads as new-reads
-use Rattle.run.proofs.word.advance.Reads as advance-reads
+use Rattle.run_word.proofs.word.advance.Reads as advance-reads
 use Rattle.watch.proofs.ended.Reads as ended-reads
 use Rattle.watch.proofs.known_of.Reads as known-of-reads
-use Rattle.watch.proofs.word.watch_word.Reads as watch-word-reads
+use Rattle.watch_word.proofs.word.watch_word.Reads as watch-word-reads
 use Rattle.watch.proofs.watch_words.Statement.{statement}
 use Rattle.watch.proofs.watch_words.Tie as tie
 

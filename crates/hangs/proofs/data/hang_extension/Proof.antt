@@ -4,7 +4,7 @@ use mathlib.Core.Path.{refl, _∙_}
 use denote.Ref.{now}
 use borrow.Author.Needs.{needs}
 use Rattle.processing.specs.Data.{operationTree}
-use Rattle.processing.specs.Operation.{extensionBy}
+use Rattle.decoding.specs.Operation.{extensionBy}
 use Rattle.meaning.specs.Hang.{clear, hangOf}
 use Rattle.processing.proofs.Done.{extension-none}
 use Rattle.hangs.proofs.Hangs.{convert-clear, convert-none, either-bit, undefined}

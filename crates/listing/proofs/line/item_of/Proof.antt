@@ -1,7 +1,7 @@
 -- `listing::line::item_of` meets its contract.
 use Rattle.listing.specs.declared.line.Expected.the-variants as expected
 use Rattle.listing.specs.declared.line.Item.the-variants.{Word, Mistake}
-use Rattle.listing.specs.Number.{hexOf}
+use Rattle.numerals.specs.Number.{hexOf}
 use Rattle.listing.specs.Line.{restOf, endedOf, setOf, windowOf, unknownOf, wordOf, itemOf, setText, windowText, unknownText}
 use Rattle.listing.proofs.Items.{rest-is, at-end, blank-is, blank-not, compared-is, length-is, given-value, given-wrong}
 use borrow.Author.Tests.{eq-eqb, ne-eqb}

@@ -4,8 +4,8 @@ use Rattle.listing.specs.declared.line.Item.the-variants.{Set, Mistake}
 use lib.Dec.{eqb, ltb}
 use mathlib.Core.Bool.{Bool, cond}
 use Rattle.machine.specs.Place.{place}
-use Rattle.listing.specs.Place.{width}
-use Rattle.listing.specs.Number.{valueOf}
+use Rattle.place_names.specs.Place.{width}
+use Rattle.numerals.specs.Number.{valueOf}
 use Rattle.listing.specs.Line.{restOf, endedOf, setTo}
 use Rattle.listing.proofs.Items.{rest-is, given-value, given-wrong}
 use borrow.Author.Tests.{eq-eqb, ne-eqb}

@@ -1,7 +1,7 @@
 -- `listing::line::window_from` meets its contract.
 use Rattle.listing.specs.declared.line.Expected.the-variants as expected
 use Rattle.listing.specs.declared.line.Item.the-variants.{Window, Mistake}
-use Rattle.listing.specs.Number.{decimalOf}
+use Rattle.numerals.specs.Number.{decimalOf}
 use Rattle.listing.specs.Line.{restOf, endedOf, windowFrom}
 use Rattle.listing.proofs.Items.{rest-is, given-value, given-wrong}
 use denote.Ref.{now}

@@ -1,7 +1,7 @@
 -- `listing::line::window_of` meets its contract.
 use Rattle.listing.specs.declared.line.Expected.the-variants as expected
 use Rattle.listing.specs.declared.line.Item.the-variants.{Mistake}
-use Rattle.listing.specs.Number.{valueOf}
+use Rattle.numerals.specs.Number.{valueOf}
 use Rattle.listing.specs.Line.{restOf, windowFrom, windowOf}
 use Rattle.listing.proofs.Items.{rest-is, given-value, given-wrong}
 use denote.Ref.{now}

@@ -3,7 +3,7 @@ use denote.Ref.{now}
 use mathlib.Core.Path.{refl}
 use lib.Ieee.{binary32}
 use borrow.Author.Needs.{needs}
-use Rattle.processing.specs.Fields.{arithmeticAt}
+use Rattle.decoding.specs.Fields.{arithmeticAt}
 use Rattle.processing.specs.Data.{dyadicTree}
 use Rattle.processing.proofs.Done.{dyadic-done}
 use Rattle.processing.proofs.single.dyadic_single.Statement.{statement}

@@ -1,0 +1,3 @@
+-- What a data-processing word names.
+pub mod Fields
+pub mod Operation

@@ -1,0 +1,71 @@
+// The fields of a data-processing word.
+ghost use mathlib.Core.Path.{_≡_};
+ghost use Prim.Native.Nat.{_<_};
+ghost use lib.Ieee.{binary32, binary64};
+ghost use Rattle.decoding.specs.Fields.{regD, regN, regM, kindOf, arithmeticAt};
+use bits::field::bits;
+use machine::registers::Double;
+use machine::registers::Single;
+use machine::registers::dreg;
+use machine::registers::sreg;
+use numbers::arithmetic::Arithmetic;
+
+// Bits 23, 21, 20 and 6 as a number. Bit 22 is the extra bit of d.
+pub fn kind(op: u32) -> u32
+    ensures { λ r. ⌜ (r ≡ kindOf op) × (r < 16) ⌝ }
+{
+    bits(op, 23, 23) * 8 + bits(op, 20, 21) * 2 + bits(op, 6, 6)
+}
+
+// The arithmetic of a kind; the last stands for every other.
+pub fn arithmetic_of(k: u32) -> Arithmetic
+    ensures { λ r. ⌜ r ≡ arithmeticAt k ⌝ }
+{
+    match k {
+        0 => Arithmetic::MultiplyAccumulate,
+        1 => Arithmetic::MultiplySubtract,
+        2 => Arithmetic::NegateMultiplySubtract,
+        3 => Arithmetic::NegateMultiplyAccumulate,
+        4 => Arithmetic::Multiply,
+        5 => Arithmetic::NegateMultiply,
+        6 => Arithmetic::Add,
+        7 => Arithmetic::Subtract,
+        _ => Arithmetic::Divide,
+    }
+}
+
+pub fn single_d(op: u32) -> Single
+    ensures { λ x. ⌜ (x .0 ≡ regD binary32 op) × (x .0 < 32) ⌝ }
+{
+    sreg(bits(op, 12, 15), bits(op, 22, 22))
+}
+
+pub fn single_n(op: u32) -> Single
+    ensures { λ x. ⌜ (x .0 ≡ regN binary32 op) × (x .0 < 32) ⌝ }
+{
+    sreg(bits(op, 16, 19), bits(op, 7, 7))
+}
+
+pub fn single_m(op: u32) -> Single
+    ensures { λ x. ⌜ (x .0 ≡ regM binary32 op) × (x .0 < 32) ⌝ }
+{
+    sreg(op % 16, bits(op, 5, 5))
+}
+
+pub fn double_d(op: u32) -> Double
+    ensures { λ x. ⌜ (x .0 ≡ regD binary64 op) × (x .0 < 32) ⌝ }
+{
+    dreg(bits(op, 12, 15), bits(op, 22, 22))
+}
+
+pub fn double_n(op: u32) -> Double
+    ensures { λ x. ⌜ (x .0 ≡ regN binary64 op) × (x .0 < 32) ⌝ }
+{
+    dreg(bits(op, 16, 19), bits(op, 7, 7))
+}
+
+pub fn double_m(op: u32) -> Double
+    ensures { λ x. ⌜ (x .0 ≡ regM binary64 op) × (x .0 < 32) ⌝ }
+{
+    dreg(op % 16, bits(op, 5, 5))
+}

@@ -1,0 +1,2 @@
+// Which registers and which operation a data-processing word names.
+pub mod fields;

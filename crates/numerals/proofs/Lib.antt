@@ -1,0 +1,4 @@
+-- Laws of reading and writing digits.
+
+pub mod Reading
+pub mod Digits

@@ -1,0 +1,2 @@
+-- What digits say.
+pub mod Number

@@ -1,0 +1,3 @@
+-- What a window mark reads as.
+
+mod Within

@@ -1,0 +1,2 @@
+// The marks of single places, for the watched run.
+pub mod places;

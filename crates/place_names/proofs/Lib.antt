@@ -1,0 +1,4 @@
+-- Laws of names, and what is printed read back.
+
+pub mod Names
+pub mod Back

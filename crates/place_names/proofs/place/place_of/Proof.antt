@@ -1,0 +1,74 @@
+-- `place_names::place::place_of` meets its contract.
+use Rattle.place_names.proofs.Names.{compared}
+use Rattle.place_names.specs.Place.{placeOf, flagsText, controlText, fpexcText, nzcvText}
+use denote.Ref.{now}
+use mathlib.Core.Path.{_∙_}
+use borrow.Author.Needs.{needs}
+use Rattle.place_names.proofs.place.place_of.Statement.{statement}
+use Rattle.place_names.proofs.place.place_of.Tie as tie
+
+slice-aggregate-same : tie.Need-slice-aggregate-same
+slice-aggregate-same c = search needs
+
+same-requires : tie.Need-same-requires
+same-requires c κs = search needs
+
+returns : tie.Need-returns
+unfolding placeOf
+returns c = rw (compared _ (now (c .before .before .before .before .args .text)) flagsText (c .before .same .ensures) ∙ c .if1 .taken)
+
+slice-aggregate-same-2 : tie.Need-slice-aggregate-same-2
+slice-aggregate-same-2 c = search needs
+
+same-requires-2 : tie.Need-same-requires-2
+same-requires-2 c κs = search needs
+
+returns-2 : tie.Need-returns-2
+unfolding placeOf
+returns-2 c = rw (compared _ (now (c .before .before .before .before .before .before .before .args .text)) flagsText (c .before .before .before .before .same .ensures) ∙ c .before .before .before .if1 .left, compared _ (now (c .before .before .before .before .before .before .before .args .text)) controlText (c .before .same2 .ensures) ∙ c .if2 .taken)
+
+slice-aggregate-same-3 : tie.Need-slice-aggregate-same-3
+slice-aggregate-same-3 c = search needs
+
+same-requires-3 : tie.Need-same-requires-3
+same-requires-3 c κs = search needs
+
+returns-3 : tie.Need-returns-3
+unfolding placeOf
+returns-3 c = rw (compared _ (now (c .before .before .before .before .before .before .before .before .before .before .args .text)) flagsText (c .before .before .before .before .before .before .before .same .ensures) ∙ c .before .before .before .before .before .before .if1 .left, compared _ (now (c .before .before .before .before .before .before .before .before .before .before .args .text)) controlText (c .before .before .before .before .same2 .ensures) ∙ c .before .before .before .if2 .left, compared _ (now (c .before .before .before .before .before .before .before .before .before .before .args .text)) fpexcText (c .before .same3 .ensures) ∙ c .if3 .taken)
+
+slice-aggregate-same-4 : tie.Need-slice-aggregate-same-4
+slice-aggregate-same-4 c = search needs
+
+same-requires-4 : tie.Need-same-requires-4
+same-requires-4 c κs = search needs
+
+returns-4 : tie.Need-returns-4
+unfolding placeOf
+returns-4 c = rw (compared _ (now (c .before .before .before .before .before .before .before .before .before .before .before .before .before .args .text)) flagsText (c .before .before .before .before .before .before .before .before .before .before .same .ensures) ∙ c .before .before .before .before .before .before .before .before .before .if1 .left, compared _ (now (c .before .before .before .before .before .before .before .before .before .before .before .before .before .args .text)) controlText (c .before .before .before .before .before .before .before .same2 .ensures) ∙ c .before .before .before .before .before .before .if2 .left, compared _ (now (c .before .before .before .before .before .before .before .before .before .before .before .before .before .args .text)) fpexcText (c .before .before .before .before .same3 .ensures) ∙ c .before .before .before .if3 .left, compared _ (now (c .before .before .before .before .before .before .before .before .before .before .before .before .before .args .text)) nzcvText (c .before .same4 .ensures) ∙ c .if4 .taken)
+
+letter-of-requires : tie.Need-letter-of-requires
+letter-of-requires c κs = search needs
+
+returns-5 : tie.Need-returns-5
+unfolding placeOf
+returns-5 c = rw (compared _ (now (c .before .before .before .before .before .before .before .before .before .before .before .before .before .before .args .text)) flagsText (c .before .before .before .before .before .before .before .before .before .before .before .same .ensures) ∙ c .before .before .before .before .before .before .before .before .before .before .if1 .left, compared _ (now (c .before .before .before .before .before .before .before .before .before .before .before .before .before .before .args .text)) controlText (c .before .before .before .before .before .before .before .before .same2 .ensures) ∙ c .before .before .before .before .before .before .before .if2 .left, compared _ (now (c .before .before .before .before .before .before .before .before .before .before .before .before .before .before .args .text)) fpexcText (c .before .before .before .before .before .same3 .ensures) ∙ c .before .before .before .before .if3 .left, compared _ (now (c .before .before .before .before .before .before .before .before .before .before .before .before .before .before .args .text)) nzcvText (c .before .before .same4 .ensures) ∙ c .before .if4 .left) (c .letter-of .ensures)
+
+pub place-of-spec : {M : Type 1} → statement M
+place-of-spec =
+    tie.close
+    (tie.spec
+    slice-aggregate-same
+    same-requires
+    returns
+    slice-aggregate-same-2
+    same-requires-2
+    returns-2
+    slice-aggregate-same-3
+    same-requires-3
+    returns-3
+    slice-aggregate-same-4
+    same-requires-4
+    returns-4
+    letter-of-requires
+    returns-5)

@@ -1,0 +1,2 @@
+-- How places are named.
+pub mod Place

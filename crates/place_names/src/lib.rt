@@ -1,0 +1,2 @@
+// Places as text: their names and numbers.
+pub mod place;

@@ -1,0 +1,3 @@
+-- What one word of a run promises.
+pub mod Word
+pub mod Stop

@@ -1,0 +1,3 @@
+-- Laws of a text that is cut at its room.
+
+pub mod Clipping

@@ -1,0 +1,2 @@
+// A text of limited length that is printed into.
+pub mod text;

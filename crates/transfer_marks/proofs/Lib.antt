@@ -1,0 +1,3 @@
+-- The marks that register transfers leave.
+
+mod Transfers

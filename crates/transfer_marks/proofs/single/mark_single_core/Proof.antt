@@ -1,0 +1,64 @@
+-- `transfer_marks::single::mark_single_core` meets its contract.
+use mathlib.Core.Path.{sym, _∙_}
+use denote.Ref.{now}
+use borrow.Author.Needs.{needs}
+use Rattle.machine.specs.Registers.{sregOf}
+use Rattle.meaning.proofs.Laws.{marked-once}
+use Rattle.transfer_marks.proofs.Transfers.{read-single}
+use Rattle.meaning.specs.Map.{mapFrom}
+use Rattle.bits.specs.Field.{field}
+use Rattle.transfer_marks.proofs.single.mark_single_core.Statement.{statement}
+use Rattle.transfer_marks.proofs.single.mark_single_core.Tie as tie
+
+bits-requires : tie.Need-bits-requires
+bits-requires c κs = search needs
+
+cast-rt : tie.Need-cast-rt
+cast-rt c = search needs
+
+bits-requires-2 : tie.Need-bits-requires-2
+bits-requires-2 c κs = search needs
+
+bits-requires-3 : tie.Need-bits-requires-3
+bits-requires-3 c κs = search needs
+
+sreg-requires : tie.Need-sreg-requires
+sreg-requires c κs = search needs
+
+bit-requires : tie.Need-bit-requires
+bit-requires c κs = search needs
+
+single-known-requires : tie.Need-single-known-requires
+single-known-requires c κs = search needs
+
+element-write-kr : tie.Need-element-write-kr
+element-write-kr c = search needs
+
+returns : tie.Need-returns
+returns c = λ thumb k st w. rw (sym (c .before .before .before .bit .ensures) ∙ c .before .before .if1 .taken) (read-single thumb (sregOf (field (c .before .before .before .before .before .before .before .before .args .op) 16 19) (field (c .before .before .before .before .before .before .before .before .args .op) 7 7)) (field (c .before .before .before .before .before .before .before .before .args .op) 12 15) st (mapFrom (now (c .before .before .before .before .before .before .before .before .args .ks)) (now (c .before .before .before .before .before .before .before .before .args .kr)) k w) _ (rw (c .single-known .ensures, c .before .before .before .before .sreg .ensures, c .before .before .before .before .before .before .bits2 .ensures, c .before .before .before .before .before .bits3 .ensures, c .before .before .before .before .before .before .before .bits .ensures)))
+
+element-copy-out-mark-single : tie.Need-element-copy-out-mark-single
+element-copy-out-mark-single c = search needs
+
+mark-single-requires : tie.Need-mark-single-requires
+mark-single-requires c κs = search needs
+
+returns-2 : tie.Need-returns-2
+returns-2 c = λ thumb k st w. rw (sym (c .before .before .before .before .bit .ensures) ∙ c .before .before .before .if1 .left) (marked-once _ _ _ _ (rw (c .mark-single .ensures, c .before .before .before .before .before .sreg .ensures, c .before .before .before .before .before .before .before .bits2 .ensures, c .before .before .before .before .before .before .bits3 .ensures, c .before .before .before .before .before .before .before .before .bits .ensures)))
+
+pub mark-single-core-spec : {M : Type 1} → statement M
+mark-single-core-spec =
+    tie.close
+    (tie.spec
+    bits-requires
+    cast-rt
+    bits-requires-2
+    bits-requires-3
+    sreg-requires
+    bit-requires
+    single-known-requires
+    element-write-kr
+    returns
+    element-copy-out-mark-single
+    mark-single-requires
+    returns-2)

@@ -1,0 +1,2 @@
+// One watched word.
+pub mod word;
