@@ -18,8 +18,8 @@ ghost use lib.ListN.{length};
 
 mod input;
 mod mistakes;
+mod outcome;
 mod output;
-mod report;
 
 use input::Input;
 use libc::STDIN_FILENO;
@@ -100,9 +100,9 @@ fn run_parts(
 ) {
     let mut answer = [0u32; 4];
     let kind = fpu::fpu_watch(s, m, w, v, base, 0, list, &mut answer);
-    report::stop(kind, answer, list, s, m);
-    report::unknown(m, v);
-    report::changed(state, marks, window, window_marks, s, m, w, v);
+    outcome::stop(kind, answer, list, s, m);
+    outcome::unknown(m, v);
+    outcome::changed(state, marks, window, window_marks, s, m, w, v);
 }
 
 // Room for a text.

@@ -1,15 +1,15 @@
--- `fpurun::report::unknown` meets its contract.
+-- `fpurun::outcome::unknown` meets its contract.
+use Prim.Native.Nat.{_-_}
+use native.Mathlib.Omega.{arith}
 use borrow.Author.Needs.{needs}
-use Prim.Native.Nat.{_+_, _-_, _≤_}
-use lib.ListN.{length}
-use Rattle.fpurun.proofs.report.unknown.Statement.{statement}
-use Rattle.fpurun.proofs.report.unknown.Tie as tie
+use Rattle.fpurun.proofs.outcome.unknown.Statement.{statement}
+use Rattle.fpurun.proofs.outcome.unknown.Tie as tie
 
 abbrev Inv-loop : tie.InvT-loop
-Inv-loop marks window-marks none₀ p₀ t6 t7 none p = p ≤ length window-marks + 52
+Inv-loop marks window-marks end first₀ p₀ t7 t8 first p = Unit {0}
 
 abbrev μ-loop : tie.MeasureT-loop
-μ-loop marks window-marks none₀ p₀ t6 t7 none p = length window-marks + 52 - p
+μ-loop marks window-marks end first₀ p₀ t7 t8 first p = end - p
 
 slice-aggregate-text : tie.Need-slice-aggregate-text Inv-loop μ-loop
 slice-aggregate-text c = search needs
@@ -17,26 +17,32 @@ slice-aggregate-text c = search needs
 text-requires : tie.Need-text-requires Inv-loop μ-loop
 text-requires c κs = search needs
 
+add-end : tie.Need-add-end Inv-loop μ-loop
+add-end c = search needs
+
+next-unknown-requires : tie.Need-next-unknown-requires Inv-loop μ-loop
+next-unknown-requires c κs = search needs
+
 loop-holds : tie.Need-loop-holds Inv-loop μ-loop
-loop-holds c = search needs
+loop-holds c = tt
 
-add-loop : tie.Need-add-loop Inv-loop μ-loop
-add-loop c = search needs
+unknown-requires : tie.Need-unknown-requires Inv-loop μ-loop
+unknown-requires c κs = search needs
 
-is-known-requires : tie.Need-is-known-requires Inv-loop μ-loop
-is-known-requires c κs = search needs
+say-requires : tie.Need-say-requires Inv-loop μ-loop
+say-requires c κs = search needs
 
-say-next-requires : tie.Need-say-next-requires Inv-loop μ-loop
-say-next-requires c κs = search needs
+add-next-unknown : tie.Need-add-next-unknown Inv-loop μ-loop
+add-next-unknown c = search needs
 
-add-p : tie.Need-add-p Inv-loop μ-loop
-add-p c = search needs
+next-unknown-requires-2 : tie.Need-next-unknown-requires-2 Inv-loop μ-loop
+next-unknown-requires-2 c κs = search needs
 
 loop-less : tie.Need-loop-less Inv-loop μ-loop
-loop-less c = search needs
+loop-less c = omega (arith, c .next-unknown2 .ensures .0)
 
 loop-again : tie.Need-loop-again Inv-loop μ-loop
-loop-again c = search needs
+loop-again c = tt
 
 slice-aggregate-text-2 : tie.Need-slice-aggregate-text-2 Inv-loop μ-loop
 slice-aggregate-text-2 c = search needs
@@ -61,11 +67,13 @@ unknown-spec =
     μ-loop
     slice-aggregate-text
     text-requires
+    add-end
+    next-unknown-requires
     loop-holds
-    add-loop
-    is-known-requires
-    say-next-requires
-    add-p
+    unknown-requires
+    say-requires
+    add-next-unknown
+    next-unknown-requires-2
     loop-less
     loop-again
     slice-aggregate-text-2

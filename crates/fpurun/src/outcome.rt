@@ -1,0 +1,61 @@
+// Writes what came of a run: the stop, the places that are unknown, and what changed. What each line says is crate `report`'s.
+use super::output::say;
+use libc::STDOUT_FILENO;
+use machine::place::WINDOW;
+use report::line;
+use report::place::next_change;
+use report::place::next_unknown;
+
+fn text(b: &[u8]) {
+    io::write_all(STDOUT_FILENO, b);
+}
+
+// The stop of a run by the number of its kind, with the count, the place, the address and the word of its answer.
+pub fn stop(kind: u32, answer: [u32; 4], list: &[u32], state: &[u32], marks: &[u8]) {
+    let count = answer[0] as usize;
+    say(line::stop(kind, count, answer[1], answer[2], list, state, marks));
+    text(b"\n");
+    say(line::ran(count, list.len()));
+    text(b"\n");
+}
+
+pub fn unknown(marks: &[u8], window_marks: &[u8]) {
+    text(b"unknown:");
+    let end = window_marks.len() + WINDOW;
+    let mut first = true;
+    let mut p = next_unknown(marks, window_marks, 0, end);
+    while p < end {
+        say(line::unknown(first, p));
+        first = false;
+        p = next_unknown(marks, window_marks, p + 1, end);
+    }
+    if first {
+        text(b" none");
+    }
+    text(b"\n");
+}
+
+pub fn changed(
+    state: &[u32],
+    marks: &[u8],
+    window: &[u32],
+    window_marks: &[u8],
+    s: &[u32],
+    m: &[u8],
+    w: &[u32],
+    v: &[u8],
+) {
+    text(b"changed:");
+    let end = window.len() + WINDOW;
+    let mut none = true;
+    let mut p = next_change(state, marks, window, window_marks, s, m, w, v, 0, end);
+    while p < end {
+        say(line::change(state, marks, window, window_marks, s, m, w, v, p));
+        none = false;
+        p = next_change(state, marks, window, window_marks, s, m, w, v, p + 1, end);
+    }
+    if none {
+        text(b" none");
+    }
+    text(b"\n");
+}

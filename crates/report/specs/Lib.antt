@@ -1,0 +1,4 @@
+-- What is told of a run that ended.
+pub mod Words
+pub mod Place
+pub mod Line
