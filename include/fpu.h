@@ -79,7 +79,8 @@ uint32_t fpu_run(uint32_t *state, size_t state_words, uint32_t *window, size_t w
 /* The same run, watched: `marks` says of each of the places 0 to 51 in order, and `window_marks` of each word of the window, whether
  * it is known (1) or not (0). It gives FPU_HANGS, with the place, before a word whose outcome would hang on an unknown place, and
  * leaves the marks that hold at its end. No unknown place can show in the result, the answer, the marks, or a place that is known at
- * the end. Else it gives what fpu_run gives, or refusal 106 or 107. */
+ * the end. With more marks 1 it counts at least as many words, and after as many words every mark that was 1 is 1. Else it gives what
+ * fpu_run gives, or refusal 106 or 107. */
 uint32_t fpu_watch(uint32_t *state, size_t state_words, uint8_t *marks, size_t marks_bytes, uint32_t *window, size_t window_words,
                    uint8_t *window_marks, size_t window_marks_bytes, uint32_t base, uint32_t thumb, const uint32_t *list,
                    size_t list_words, uint32_t *answer, size_t answer_words);

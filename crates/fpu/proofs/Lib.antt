@@ -7,4 +7,5 @@ pub mod Unchanged
 pub mod Sizes
 pub mod Numbered
 pub mod NonInterference
+pub mod More
 pub mod Watches

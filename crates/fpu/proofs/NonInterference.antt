@@ -1,5 +1,5 @@
 -- Demand 3 over the buffers: what an unknown word holds shows nowhere.
-use Prim.Native.Nat.{ℕ, zero, suc, _+_, _-_, _<_, _≤_}
+use Prim.Native.Nat.{ℕ, suc, _+_, _-_, _<_}
 use native.Mathlib.Omega.{arith}
 use native.Mathlib.Decide.{decLt}
 use mathlib.Core.Path.{_≡_, refl, ap, sym, _∙_, subst}
@@ -8,7 +8,7 @@ use mathlib.Core.List.{List, [], _∷_}
 use lib.Dec.{eqb}
 use lib.ListN.{length, getD, take, drop, length-drop, List·getD-eq-default}
 use lib.Seq.{length-take-le}
-use borrow.Author.Tests.{le-ltb, eqb-true, eq-eqb}
+use borrow.Author.Tests.{eqb-true, eq-eqb}
 use Rattle.machine.specs.declared.Machine.{Machine}
 use Rattle.machine.specs.Machine.{Sized}
 use Rattle.machine.specs.Place.{Place, word, place, before, State, get, state}
@@ -23,14 +23,13 @@ use Rattle.watch.proofs.Demanded.{within, demand-3}
 use Rattle.layout.specs.State.{encode, decode, Valid, inPosition}
 use Rattle.layout.specs.Marks.{boolsOf, encodeMarks, decodeMarks}
 use Rattle.layout.proofs.Words.{place-word, valid-encode}
-use Rattle.layout.proofs.Bytes.{decode-encode-marks}
 use Rattle.limits.proofs.Limits.{marks-within}
 use Rattle.fpu.specs.Outcome.{decodedState}
 use Rattle.fpu.specs.WatchOutcome.{reportedWatch, decodedMap, watched}
 use Rattle.fpu.specs.Buffers.{Same, Alike, NonInterference}
 use Rattle.fpu.proofs.ValidWatch.{valid-watch-state, valid-watch-marks}
 use Rattle.fpu.proofs.Sizes.{Sizes, watch-sizes}
-use Rattle.fpu.proofs.Numbered.{held, decoded-place, decoded-mark}
+use Rattle.fpu.proofs.Numbered.{held, decoded-place, decoded-mark, encoded-mark, word-place, inside, one-inside}
 
 -- agreement in the known places before the window
 abbrev AgreeBefore : Map → State → State → Type 0
@@ -38,7 +37,7 @@ AgreeBefore μ a b = (n : ℕ) → n < before → known μ (place n) ≡ true �
 
 -- ---- from buffers to places
 
-sized : (t : Bool) (l : List ℕ) → length l ≡ 52 → Sized (decode t l)
+pub sized : (t : Bool) (l : List ℕ) → length l ≡ 52 → Sized (decode t l)
 unfolding decode
 sized t l h = record { s = length-take-le 32 l (omega arith); r = length-take-le 16 (drop 32 l) (rw (length-drop 32 l, h) (omega arith)) }
 
@@ -47,7 +46,7 @@ unfolding boolsOf
 as-many [] = refl
 as-many (x ∷ m) = ap (λ (n : ℕ). suc n) (as-many m)
 
-mapped : (m v : List ℕ) → length m ≡ 52 → Mapped (decodedMap m v)
+pub mapped : (m v : List ℕ) → length m ≡ 52 → Mapped (decodedMap m v)
 unfolding decodeMarks
 mapped m v h =
     record {
@@ -60,23 +59,12 @@ agree-before t m v l l′ w w′ z z′ s n h k =
     let q : getD m n 0 ≡ 1 = eqb-true _ _ (sym (decoded-mark m v n h) ∙ k) in
     decoded-place t l w z n h ∙ (ap (held (place n)) (s n q) ∙ sym (decoded-place t l′ w′ z′ n h))
 
--- an entry is the same for every default
-inside : (v : List ℕ) (i : ℕ) → i < length v → getD v i 0 ≡ getD v i 1
-inside [] i h = absurd (omega arith)
-inside (x ∷ v) zero h = refl
-inside (x ∷ v) (suc i) h = inside v i (omega arith)
-
 agree-window : (v w w′ : List ℕ) → length v ≡ length w → length w ≡ length w′ → Same v w w′ → (i : ℕ) → eqb (getD v i 1) 1 ≡ true → getD w i 0 ≡ getD w′ i 0
 agree-window v w w′ e e′ s i k = by (decLt i (length v))
   where
     by : Dec (i < length v) → getD w i 0 ≡ getD w′ i 0
     by (yes h) = s i (inside v i h ∙ eqb-true _ _ k)
     by (no h) = List·getD-eq-default w 0 (omega (arith, e)) ∙ sym (List·getD-eq-default w′ 0 (omega (arith, e, e′)))
-
-word-place : (n : ℕ) → before ≤ n → place n ≡ word (n - before)
-unfolding place
-word-place n h =
-    rw (le-ltb n 32 (omega arith), le-ltb n 48 (omega arith), le-ltb n 49 (omega arith), le-ltb n 50 (omega arith), le-ltb n 51 (omega arith), le-ltb n before (omega arith))
 
 agree : (μ : Map) (a b : State) → AgreeBefore μ a b → ((i : ℕ) → eqb (getD (μ .words) i 1) 1 ≡ true → getD (a .window) i 0 ≡ getD (b .window) i 0) → Agree μ a b
 agree μ a b f g n = by (decLt n before)
@@ -88,15 +76,11 @@ agree μ a b f g n = by (decLt n before)
 -- ---- and back
 
 module _ (k : Marks) (v : List ℕ) (p q : Machine) (w w′ : List ℕ) (z : Mapped (mapOf k v)) (zp : Sized p) (zq : Sized q) (f : AgreeBefore (mapOf k v) (state p w) (state q w′)) where
-  known-one : (n : ℕ) → n < before → getD (encodeMarks k) n 0 ≡ 1 → known (mapOf k v) (place n) ≡ true
-  known-one n h e =
-      subst (λ (x : Marks). known (mapOf x v) (place n) ≡ true) (decode-encode-marks k (z .s) (z .r)) (decoded-mark (encodeMarks k) v n h ∙ eq-eqb _ _ e)
-
   encoded-same : Same (encodeMarks k) (encode p) (encode q)
   encoded-same n e = by (decLt n before)
     where
       by : Dec (n < before) → getD (encode p) n 0 ≡ getD (encode q) n 0
-      by (yes h) = place-word p zp w n h ∙ (ap (inPosition (place n)) (f n h (known-one n h e)) ∙ sym (place-word q zq w′ n h))
+      by (yes h) = place-word p zp w n h ∙ (ap (inPosition (place n)) (f n h (encoded-mark k v z n h ∙ eq-eqb _ _ e)) ∙ sym (place-word q zq w′ n h))
       by (no h) = List·getD-eq-default (encode p) 0 (omega (arith, valid-encode p zp .words)) ∙ sym (List·getD-eq-default (encode q) 0 (omega (arith, valid-encode q zq .words)))
 
 reported-alike : (x y : Reply) → x .report ≡ y .report → x .count ≡ y .count → x .map ≡ y .map → Sizes (x .leaves) (x .map) → Sized (y .leaves .machine)
@@ -111,12 +95,6 @@ reported-alike x y er ec em z zy f g =
       window = g;
     }
 
--- a mark of 1 is one for every default
-one-inside : (v : List ℕ) (i : ℕ) → getD v i 0 ≡ 1 → getD v i 1 ≡ 1
-one-inside [] i e = refl
-one-inside (x ∷ v) zero e = e
-one-inside (x ∷ v) (suc i) e = one-inside v i e
-
 window-place : (μ : Map) (a b : State) → Agree μ a b → Same (μ .words) (a .window) (b .window)
 window-place μ a b ag i e =
     let q : before + i - before ≡ i = omega arith in
@@ -125,12 +103,12 @@ window-place μ a b ag i e =
 
 -- ---- the demand
 
-refused-reply : (base : ℕ) (list : List ℕ) (st : State) (μ : Map) → eqb (limitOf base list st μ) 0 ≡ false
+pub refused-reply : (base : ℕ) (list : List ℕ) (st : State) (μ : Map) → eqb (limitOf base list st μ) 0 ≡ false
     → watchReply base list st μ ≡ record { report = report (refused (limitOf base list st μ)); count = 0; leaves = st; map = μ }
 unfolding watchReply
 refused-reply base list st μ e = rw e
 
-sizes-left : (base : ℕ) (list : List ℕ) (st : State) (μ : Map) → limitOf base list st μ ≡ 0 → Sizes st μ → Sizes (watchReply base list st μ .leaves) (watchReply base list st μ .map)
+pub sizes-left : (base : ℕ) (list : List ℕ) (st : State) (μ : Map) → limitOf base list st μ ≡ 0 → Sizes st μ → Sizes (watchReply base list st μ .leaves) (watchReply base list st μ .map)
 sizes-left base list st μ e z = rw (within base list st μ e) (watch-sizes (meaning base) list 0 st μ z)
 
 module _ (base : ℕ) (list m v : List ℕ) (thumb : ℕ) (l l′ w w′ : List ℕ) (z : Valid l) (z′ : Valid l′) (zm : length m ≡ 52) (e : length w ≡ length w′)

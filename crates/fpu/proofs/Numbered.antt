@@ -11,9 +11,12 @@ use lib.Seq.{getD-take, getD-drop, length-take-le}
 use borrow.Author.Tests.{lt-ltb, le-ltb}
 use Rattle.bits.specs.Psr.{nzcvOf, psrOf}
 use Rattle.machine.specs.Place.{Place, single, core, word, flags, control, exc, nzcv, place, before, get, state}
+use Rattle.meaning.specs.declared.Marks.{Marks}
 use Rattle.meaning.specs.Map.{known, mapOf}
+use Rattle.watch.specs.Demand.{Mapped}
 use Rattle.layout.specs.State.{decode, Valid}
-use Rattle.layout.specs.Marks.{boolsOf, decodeMarks}
+use Rattle.layout.specs.Marks.{boolsOf, encodeMarks, decodeMarks}
+use Rattle.layout.proofs.Bytes.{decode-encode-marks}
 
 -- a fact of the places before the window, by their sorts
 pub by-number : (P : ℕ → Place → Type 0) → ((n : ℕ) → n < 32 → P n (single n)) → ((n : ℕ) → n < 16 → P (32 + n) (core n)) → P 48 flags → P 49 control → P 50 exc → P 51 nzcv
@@ -68,3 +71,26 @@ decoded-mark m v =
     by-number (λ n p. known (mapOf (decodeMarks m) v) p ≡ eqb (getD m n 0) 1)
     (λ n h. one-bool (take 32 m) n ∙ ap (λ (x : ℕ). eqb x 1) (getD-take 32 m n 0 h))
     (λ n h. one-bool (take 16 (drop 32 m)) n ∙ ap (λ (x : ℕ). eqb x 1) (core-part m 0 n h)) refl refl refl refl
+
+pub encoded-mark : (k : Marks) (v : List ℕ) → Mapped (mapOf k v) → (n : ℕ) → n < before → known (mapOf k v) (place n) ≡ eqb (getD (encodeMarks k) n 0) 1
+encoded-mark k v z n h =
+    subst (λ (x : Marks). known (mapOf x v) (place n) ≡ eqb (getD (encodeMarks k) n 0) 1) (decode-encode-marks k (z .s) (z .r)) (decoded-mark (encodeMarks k) v n h)
+
+-- ---- the window
+
+pub word-place : (n : ℕ) → before ≤ n → place n ≡ word (n - before)
+unfolding place
+word-place n h =
+    rw (le-ltb n 32 (omega arith), le-ltb n 48 (omega arith), le-ltb n 49 (omega arith), le-ltb n 50 (omega arith), le-ltb n 51 (omega arith), le-ltb n before (omega arith))
+
+-- an entry is the same for every default
+pub inside : (v : List ℕ) (i : ℕ) → i < length v → getD v i 0 ≡ getD v i 1
+inside [] i h = absurd (omega arith)
+inside (x ∷ v) zero h = refl
+inside (x ∷ v) (suc i) h = inside v i (omega arith)
+
+-- a mark of 1 is one for every default
+pub one-inside : (v : List ℕ) (i : ℕ) → getD v i 0 ≡ 1 → getD v i 1 ≡ 1
+one-inside [] i e = refl
+one-inside (x ∷ v) zero e = e
+one-inside (x ∷ v) (suc i) e = one-inside v i e

@@ -15,16 +15,18 @@ use Rattle.meaning.specs.Stop.{report}
 use Rattle.run_word.specs.Stop.{stopOf}
 use Rattle.watch.specs.declared.Watched.{Watched}
 use Rattle.watch.specs.Watch.{answered, watchReply}
-use Rattle.watch.specs.Demand.{Promise}
+use Rattle.watch.specs.Promise.{Promise}
 use Rattle.layout.specs.State.{encode, decode}
 use Rattle.layout.specs.Marks.{encodeMarks, decodeMarks}
 use Rattle.answer.specs.Answer.{answerOf}
 use Rattle.fpu.specs.Outcome.{invalidArgument, decodedState}
 use Rattle.fpu.specs.WatchOutcome.{watchOutcome, reportedWatch, validWatch, decodedMap, watched, WatchOutcome}
 use Rattle.fpu.specs.Buffers.{UnchangedMarks, NonInterference}
+use Rattle.fpu.specs.More.{MoreKnown}
 use Rattle.fpu.specs.WatchPromise.{WatchPromise}
 use Rattle.fpu.proofs.Unchanged.{unchanged-marks}
 use Rattle.fpu.proofs.NonInterference.{non-interference}
+use Rattle.fpu.proofs.More.{more-known}
 
 module _ (base : ℕ) (list l m w v : List ℕ) (thumb : ℕ) (a : List ℕ) (b : Bool) (u : b ≡ validWatch l m thumb (length a)) where
   -- what the definition leaves has the promises over the buffers
@@ -35,6 +37,9 @@ module _ (base : ℕ) (list l m w v : List ℕ) (thumb : ℕ) (a : List ℕ) (b 
     hides : NonInterference base list l m w v thumb a x
     hides = rw e (non-interference base list l m w v thumb a)
 
+    shows : MoreKnown base list l m w v thumb a x
+    shows = rw e (more-known base list l m w v thumb a)
+
   -- 255
   pub not-watched : not b ≡ true → WatchPromise base list l m w v thumb a (watchOutcome invalidArgument l m w v a)
   not-watched e =
@@ -42,6 +47,7 @@ module _ (base : ℕ) (list l m w v : List ℕ) (thumb : ℕ) (a : List ℕ) (b 
         leaves = same;
         unchanged = keeps _ same;
         non-interference = hides _ same;
+        more-known = shows _ same;
         reply = watchReply base list (decodedState l w thumb) (decodedMap m v);
         reports = λ t. absurd (no t);
         promise = λ t. absurd (no t);
@@ -73,6 +79,7 @@ module _ (base : ℕ) (list l m w v : List ℕ) (thumb : ℕ) (a : List ℕ) (b 
             leaves = same;
             unchanged = keeps _ same;
             non-interference = hides _ same;
+            more-known = shows _ same;
             reply = answered x w′ v′;
             reports = λ t. reported;
             promise = λ t. promised;

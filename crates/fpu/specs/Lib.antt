@@ -2,4 +2,5 @@
 pub mod Outcome
 pub mod WatchOutcome
 pub mod Buffers
+pub mod More
 pub mod WatchPromise

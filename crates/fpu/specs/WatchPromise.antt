@@ -5,10 +5,11 @@ use mathlib.Core.Bool.{true}
 use mathlib.Core.List.{List}
 use lib.ListN.{length, getD}
 use Rattle.watch.specs.Watch.{Reply}
-use Rattle.watch.specs.Demand.{Promise}
+use Rattle.watch.specs.Promise.{Promise}
 use Rattle.fpu.specs.Outcome.{decodedState}
 use Rattle.fpu.specs.WatchOutcome.{WatchOutcome, reportedWatch, validWatch, decodedMap, watched}
 use Rattle.fpu.specs.Buffers.{UnchangedMarks, NonInterference}
+use Rattle.fpu.specs.More.{MoreKnown}
 
 -- of its outcome x: a state, marks, a window, its marks, the thumb and an answer at entry
 pub record WatchPromise (base : ℕ) (list l m w v : List ℕ) (thumb : ℕ) (a : List ℕ) (x : WatchOutcome) : Type 0 where
@@ -18,7 +19,9 @@ pub record WatchPromise (base : ℕ) (list l m w v : List ℕ) (thumb : ℕ) (a 
   pub unchanged : ((n : ℕ) → getD l n 0 < 2 ^ 32) → UnchangedMarks l m w v x
   -- demand 3 over the buffers
   pub non-interference : NonInterference base list l m w v thumb a x
-  -- and over what they encode: where the arguments are valid, the reply that x reports has the watched run's promise
+  -- more known never shows less
+  pub more-known : MoreKnown base list l m w v thumb a x
+  -- and over what the buffers encode: where the arguments are valid, the reply that x reports has the watched run's promise
   pub reply : Reply
   pub reports : validWatch l m thumb (length a) ≡ true → x ≡ reportedWatch reply
   pub promise : validWatch l m thumb (length a) ≡ true → Promise base list (decodedState l w thumb) (decodedMap m v) reply

@@ -5,7 +5,7 @@ use mathlib.Core.Path.{_≡_, refl, ap, _∙_}
 use mathlib.Core.Bool.{Bool, true, false, _&&_}
 use mathlib.Core.List.{List, [], _∷_, _++_}
 use lib.Dec.{eqb, ltb}
-use lib.ListN.{length, getD, take, drop}
+use lib.ListN.{length, getD, take, drop, length-append}
 use lib.Seq.{take-at, drop-at, getD-append-add}
 use borrow.Author.Tests.{eqb-true, ltb-true}
 use Rattle.bits.specs.Psr.{oneOf}
@@ -90,6 +90,10 @@ module _ (k : Marks) (zs : length (k .s) ≡ 32) (zr : length (k .r) ≡ 16) whe
   cores =
       ap (take 16) (drop-at (bytesOf (k .s)) (bytesOf (k .r) ++ tail k) 32 (length-bytes (k .s) ∙ zs))
       ∙ take-at (bytesOf (k .r)) (tail k) 16 (length-bytes (k .r) ∙ zr)
+
+  pub encoded-bytes : length (encodeMarks k) ≡ 52
+  unfolding encodeMarks
+  encoded-bytes = simp length-append (omega (arith, length-bytes (k .s), length-bytes (k .r), zs, zr))
 
   late : (i : ℕ) → getD (encodeMarks k) (48 + i) 0 ≡ getD (tail k) i 0
   unfolding encodeMarks

@@ -62,6 +62,13 @@ shorter short list base words thumb h e = by (ltb mostList list) refl e
     by true f g = absurd (one g)
     by false f g = rw (le-ltb mostList short (omega (arith, ltb-false mostList list f))) g
 
+pub watch-shorter : (short list base words : ℕ) (thumb : Bool) (marks : List ℕ) → short ≤ list → watchLimit list base words thumb marks ≡ 0
+    → watchLimit short base words thumb marks ≡ 0
+unfolding watchLimit
+watch-shorter short list base words thumb marks h e =
+    let n = run-within list base words thumb marks e in
+    rw (shorter short list base words thumb h n) (rw n at e)
+
 -- within the limits the list is short enough, and the Thumb bit is clear
 pub list-within : (list base words : ℕ) (thumb : Bool) → runLimit list base words thumb ≡ 0 → list ≤ mostList
 unfolding runLimit

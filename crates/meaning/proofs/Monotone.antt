@@ -181,11 +181,12 @@ module _ (M : ℕ → Tree) where
       by last h = omega arith
       by (halt s) h = omega arith
 
-  -- x is what the first run leaves and y the second, n words having been counted; after k more words the second map is above the first
+  -- x is what the first run leaves and y the second, n words having been counted; the second run of k words more counts them, and its map is above the first
   record Beside (ws : List ℕ) (n : ℕ) (st : State) (ν : Map) (x y : Watched) : Type 0 where
     k : ℕ
     counted : x .count ≡ n + k
     least : x .count ≤ y .count
+    reached : (m : ℕ) → watch M (take k ws) m st ν .count ≡ m + k
     above : (m : ℕ) → Above (x .map) (watch M (take k ws) m st ν .map)
 
   abbrev more : List ℕ → ℕ → Seen → Watched
@@ -201,16 +202,17 @@ module _ (M : ℕ → Tree) where
         k = suc (b .k);
         counted = omega (arith, b .counted);
         least = rw (o .0) (b .least);
+        reached = λ m. let e : suc m + b .k ≡ m + suc (b .k) = omega arith in rw (o .0, o .1) (b .reached (suc m) ∙ e);
         above = λ m. rw (o .0, o .1) (b .above (suc m));
       }
   next-beside w ws n st μ ν x last a o l ih =
-      record { k = 1; counted = omega arith; least = rw (o .0) (omega arith); above = λ m. rw (o .0) (o .2) }
+      record { k = 1; counted = omega arith; least = rw (o .0) (omega arith); reached = λ m. rw (o .0) (omega arith); above = λ m. rw (o .0) (o .2) }
   next-beside w ws n st μ ν x (halt s) a o l ih =
-      record { k = 0; counted = omega arith; least = count-from (w ∷ ws) n st ν; above = λ m. subst (λ (z : Map). Above z ν) (sym l) a }
+      record { k = 0; counted = omega arith; least = count-from (w ∷ ws) n st ν; reached = λ m. omega arith; above = λ m. subst (λ (z : Map). Above z ν) (sym l) a }
 
   beside : (ws : List ℕ) (n : ℕ) (st : State) (μ ν : Map) → Above μ ν → Beside ws n st ν (watch M ws n st μ) (watch M ws n st ν)
   unfolding watch
-  beside [] n st μ ν a = record { k = 0; counted = omega arith; least = omega arith; above = λ m. a }
+  beside [] n st μ ν a = record { k = 0; counted = omega arith; least = omega arith; reached = λ m. omega arith; above = λ m. a }
   beside (w ∷ ws) n st μ ν a =
       next-beside w ws n st μ ν (watched (M w) st μ) (watched (M w) st μ .next) a (tree-over (M w) st μ ν a) (tree-unmoved (M w) st μ)
       (λ b e. rw e (beside ws (suc n) (step advance (watched (M w) st μ .st)) (watched (M w) st μ .map) (watched (M w) st ν .map) b))
@@ -219,4 +221,4 @@ module _ (M : ℕ → Tree) where
   monotone ws st μ ν z m =
       let b = beside ws 0 st μ ν (record { size = z; more = m }) in
       let e : watch M ws 0 st μ .count ≡ b .k = omega (arith, b .counted) in
-      record { count = b .least; known = rw e (b .above 0 .more) }
+      record { count = b .least; reached = rw e (omega (arith, b .reached 0)); size = rw e (b .above 0 .size); known = rw e (b .above 0 .more) }

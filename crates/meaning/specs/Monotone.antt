@@ -19,8 +19,10 @@ pub record SameSize (μ ν : Map) : Type 0 where
   pub r : length (μ .marks .r) ≡ length (ν .marks .r)
   pub words : length (μ .words) ≡ length (ν .words)
 
--- One list from one state under two maps: the second run counts at least as many words, and after as many as the first counted it knows all that the
--- first knows at its end.
+-- One list from one state under two maps: the second run counts at least as many words, and the run of as many first words as the first counted counts
+-- them all and ends with a map that knows all that the first knows at its end.
 pub record Monotone (M : ℕ → Tree) (ws : List ℕ) (st : State) (μ ν : Map) : Type 0 where
   pub count : watch M ws 0 st μ .count ≤ watch M ws 0 st ν .count
+  pub reached : watch M (take (watch M ws 0 st μ .count) ws) 0 st ν .count ≡ watch M ws 0 st μ .count
+  pub size : SameSize (watch M ws 0 st μ .map) (watch M (take (watch M ws 0 st μ .count) ws) 0 st ν .map)
   pub known : KnowsAll (watch M ws 0 st μ .map) (watch M (take (watch M ws 0 st μ .count) ws) 0 st ν .map)

@@ -1,5 +1,7 @@
-// Runs the watch: document 01's example, the mark rules word by word, and random lists from two machines that differ in unknown places.
+// Runs the watch: document 01's example, the mark rules word by word, random lists from two machines that differ in unknown places, and with two maps
+// of which one knows more.
 mod exact;
+mod more;
 mod pairs;
 mod sides;
 
@@ -74,8 +76,18 @@ fn random() {
     text(b"\n");
 }
 
+fn raised() {
+    let t = more::lists();
+    number(t.lists);
+    named(b" random lists with more known, counting more ", t.longer);
+    named(b", knowing more ", t.wider);
+    named(b", showing less ", t.less);
+    text(b"\n");
+}
+
 fn main() {
     example();
     by_rules();
     random();
+    raised();
 }

@@ -49,7 +49,7 @@ pub fn next(x: u64) -> u64 {
 }
 
 // The start of an own stream for each part of a list's state.
-fn stream(seed: u64, part: u64) -> u64 {
+pub fn stream(seed: u64, part: u64) -> u64 {
     next(next(next(seed ^ part)))
 }
 
@@ -205,7 +205,7 @@ pub fn side_by(k: u64, a: Side, b: Side) -> Side {
 }
 
 // Three quarters of the places are known; 49 and 51 more often.
-fn map(seed: u64) -> u64 {
+pub fn map(seed: u64) -> u64 {
     let a = stream(seed, 0x77_0000_0000_0000);
     let b = next(a);
     let k = a | next(b);
@@ -277,7 +277,7 @@ fn word(x: u64) -> u32 {
     condition(next(x)) | body(x)
 }
 
-fn list_of(seed: u64) -> [u32; 8] {
+pub fn list_of(seed: u64) -> [u32; 8] {
     let mut l = [0; 8];
     let mut x = stream(seed, 0x88);
     for i in 0..8 {
@@ -288,7 +288,7 @@ fn list_of(seed: u64) -> [u32; 8] {
 }
 
 // The first n words.
-fn first(list: &[u32], n: usize) -> &[u32] {
+pub fn first(list: &[u32], n: usize) -> &[u32] {
     if n <= list.len() {
         return &list[..n];
     }
@@ -313,7 +313,7 @@ fn alike(a: Outcome, b: Outcome) -> bool {
     stops & (a.known == b.known) & agree(here, there, a.known)
 }
 
-fn plus(x: u64, by: u64) -> u64 {
+pub fn plus(x: u64, by: u64) -> u64 {
     if x < 0xFFFF_FFFF {
         if by < 0xFFFF {
             return x + by;
@@ -322,7 +322,7 @@ fn plus(x: u64, by: u64) -> u64 {
     x
 }
 
-fn one_if(b: bool) -> u64 {
+pub fn one_if(b: bool) -> u64 {
     if b { 1 } else { 0 }
 }
 

@@ -1,4 +1,7 @@
--- Laws of the crate's proofs, and demand 3.
+-- Laws of the crate's proofs, demand 3, and that more known never shows less.
 
 mod Replies
+mod Places
 pub mod Demanded
+pub mod More
+mod Promised

@@ -1,7 +1,7 @@
 -- Demand 3: what an unknown place holds cannot show in the answer of a watched run, nor in any place that it ends up calling known.
 use Prim.Native.Nat.{ℕ}
 use mathlib.Core.Path.{_≡_}
-use mathlib.Core.Bool.{true, false}
+use mathlib.Core.Bool.{true}
 use mathlib.Core.List.{List}
 use lib.ListN.{length, take}
 use Rattle.machine.specs.declared.Machine.{Machine}
@@ -41,13 +41,3 @@ Demand3 =
     → Alike (watchReply base list (state a v) μ) (watchReply base list (state b w) μ)
     × Plainly base list (state a v) (watchReply base list (state a v) μ)
     × Plainly base list (state b w) (watchReply base list (state b w) μ)
-
--- what the public watched run promises of its answer x, given a machine with its window and a map
-pub record Promise (base : ℕ) (list : List ℕ) (st : State) (μ : Map) (x : Reply) : Type 0 where
-  -- it is the answer of the definition, refusals included
-  pub answer : x ≡ watchReply base list st μ
-  -- demand 3: within the limits, from every other machine in ARM state and window of the same size that agree where the map says known
-  pub alike : limitOf base list st μ ≡ 0 → (b : Machine) (w : List ℕ) → Sized b → b .thumb ≡ false → length w ≡ length (st .window)
-      → Agree μ st (state b w) → Alike x (watchReply base list (state b w) μ)
-  -- and the plain run of the counted words leaves the same
-  pub plainly : limitOf base list st μ ≡ 0 → Plainly base list st x

@@ -7,7 +7,7 @@ ghost use Rattle.meaning.specs.Map.{mapOf, marksFrom, knownOf};
 ghost use Rattle.meaning.specs.Run as R;
 ghost use Rattle.run_word.specs.Word.{meaning};
 ghost use Rattle.watch.specs.Watch.{answered, reply};
-ghost use Rattle.watch.specs.Demand.{Promise};
+ghost use Rattle.watch.specs.Promise.{Promise};
 use limits::limit::watch_limit;
 use machine::Machine;
 use meaning::Known;

@@ -7,7 +7,8 @@ use Rattle.meaning.specs.Map.{mapOf}
 use Rattle.machine.specs.Machine.{Sized}
 use Rattle.machine.specs.Place.{state}
 use Rattle.limits.proofs.Limits.{run-within, arm}
-use Rattle.watch.proofs.Demanded.{refusing, promised, within}
+use Rattle.watch.proofs.Demanded.{within}
+use Rattle.watch.proofs.Promised.{refusing, promised}
 use Rattle.watch.proofs.watch.Statement.{statement}
 use Rattle.watch.proofs.watch.Tie as tie
 

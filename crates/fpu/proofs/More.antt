@@ -1,0 +1,139 @@
+-- More known never shows less, over the buffers.
+use Prim.Native.Nat.{ℕ, _-_, _+_, _<_}
+use native.Mathlib.Omega.{arith}
+use native.Mathlib.Decide.{decLt}
+use mathlib.Core.Path.{_≡_, refl, ap, sym, _∙_, subst}
+use mathlib.Core.Bool.{Bool, true, false, cond}
+use mathlib.Core.List.{List}
+use lib.Dec.{eqb}
+use lib.ListN.{length, getD, take, List·getD-eq-default}
+use borrow.Author.Tests.{eqb-true, eq-eqb}
+use Rattle.machine.specs.Place.{Place, word, place, before, State}
+use Rattle.meaning.specs.Map.{Map, known}
+use Rattle.watch.specs.Watch.{limitOf, watchReply}
+use Rattle.watch.specs.Demand.{Mapped}
+use Rattle.watch.specs.More as Watch
+use Rattle.watch.proofs.More as Run
+use Rattle.layout.specs.State.{Valid}
+use Rattle.layout.specs.Marks.{encodeMarks}
+use Rattle.layout.proofs.Bytes.{encoded-bytes}
+use Rattle.fpu.specs.Outcome.{decodedState}
+use Rattle.fpu.specs.WatchOutcome.{watchOutcome, reportedWatch, validWatch, decodedMap, watched}
+use Rattle.fpu.specs.More.{KnowsAll, countOf, NoLess, MoreKnown}
+use Rattle.fpu.proofs.ValidWatch.{valid-watch-state, valid-watch-marks}
+use Rattle.fpu.proofs.Numbered.{decoded-mark, encoded-mark, word-place, inside, one-inside}
+use Rattle.fpu.proofs.NonInterference.{sized, mapped, sizes-left, refused-reply}
+
+-- ---- from buffers to places, and back
+
+module _ (m m′ v v′ : List ℕ) (e : length v ≡ length v′) (f : KnowsAll m m′) (g : KnowsAll v v′) where
+  before-known : (n : ℕ) → n < before → known (decodedMap m v) (place n) ≡ true → known (decodedMap m′ v′) (place n) ≡ true
+  before-known n l h = decoded-mark m′ v′ n l ∙ eq-eqb _ _ (f n (eqb-true _ _ (sym (decoded-mark m v n l) ∙ h)))
+
+  word-known : (i : ℕ) → eqb (getD v i 1) 1 ≡ true → eqb (getD v′ i 1) 1 ≡ true
+  word-known i h = by (decLt i (length v))
+    where
+      by : Dec (i < length v) → eqb (getD v′ i 1) 1 ≡ true
+      by (yes l) = eq-eqb _ _ (one-inside v′ i (g i (inside v i l ∙ eqb-true _ _ h)))
+      by (no l) = eq-eqb _ _ (List·getD-eq-default v′ 1 (omega (arith, e)))
+
+  decoded-known : Watch.KnowsAll (decodedMap m v) (decodedMap m′ v′)
+  decoded-known n = by (decLt n before)
+    where
+      by : Dec (n < before) → known (decodedMap m v) (place n) ≡ true → known (decodedMap m′ v′) (place n) ≡ true
+      by (yes l) = before-known n l
+      by (no l) = subst (λ (p : Place). known (decodedMap m v) p ≡ true → known (decodedMap m′ v′) p ≡ true) (sym (word-place n (omega arith))) (word-known (n - before))
+
+module _ (μ ν : Map) (z : Mapped μ) (z′ : Mapped ν) (e : length (μ .words) ≡ length (ν .words)) (f : Watch.KnowsAll μ ν) where
+  marks-known : KnowsAll (encodeMarks (μ .marks)) (encodeMarks (ν .marks))
+  marks-known n h = by (decLt n before)
+    where
+      by : Dec (n < before) → getD (encodeMarks (ν .marks)) n 0 ≡ 1
+      by (yes l) = eqb-true _ _ (sym (encoded-mark (ν .marks) (ν .words) z′ n l) ∙ f n (encoded-mark (μ .marks) (μ .words) z n l ∙ eq-eqb _ _ h))
+      by (no l) =
+          let o : getD (encodeMarks (μ .marks)) n 0 ≡ 0 = List·getD-eq-default (encodeMarks (μ .marks)) 0 (omega (arith, encoded-bytes (μ .marks) (z .s) (z .r))) in
+          absurd (omega (arith, o, h))
+
+  window-known : KnowsAll (μ .words) (ν .words)
+  window-known i h = by (decLt i (length (ν .words)))
+    where
+      known-word : eqb (getD (ν .words) i 1) 1 ≡ true
+      known-word =
+          let q : before + i - before ≡ i = omega arith in
+          let p : place (before + i) ≡ word i = word-place (before + i) (omega arith) ∙ ap word q in
+          subst (λ (p : Place). known μ p ≡ true → known ν p ≡ true) p (f (before + i)) (eq-eqb _ _ (one-inside (μ .words) i h))
+
+      by : Dec (i < length (ν .words)) → getD (ν .words) i 0 ≡ 1
+      by (yes l) = inside (ν .words) i l ∙ eqb-true _ _ known-word
+      by (no l) =
+          let o : getD (μ .words) i 0 ≡ 0 = List·getD-eq-default (μ .words) 0 (omega (arith, e)) in
+          absurd (omega (arith, o, h))
+
+-- ---- what is no refusal
+
+-- its arguments are valid
+not-invalid : (base : ℕ) (list l m w v : List ℕ) (thumb : ℕ) (a : List ℕ) → watched base list l m w v thumb a .result < 100 → validWatch l m thumb (length a) ≡ true
+not-invalid base list l m w v thumb a = by (validWatch l m thumb (length a))
+  where
+    by : (b : Bool) → cond b (reportedWatch (watchReply base list (decodedState l w thumb) (decodedMap m v))) (watchOutcome 255 l m w v a) .result < 100 → b ≡ true
+    by true h = refl
+    by false h = absurd (omega (arith, h))
+
+-- and it is within the limits
+not-refused : (base : ℕ) (list : List ℕ) (st : State) (μ : Map) → watchReply base list st μ .report .kind < 100 → limitOf base list st μ ≡ 0
+not-refused base list st μ h = by (eqb (limitOf base list st μ) 0) refl
+  where
+    by : (b : Bool) → eqb (limitOf base list st μ) 0 ≡ b → limitOf base list st μ ≡ 0
+    by true t = eqb-true _ _ t
+    by false t = let n : 100 + limitOf base list st μ < 100 = rw (refused-reply base list st μ t) at h in absurd (omega (arith, n))
+
+-- ---- the theorem
+
+module _ (base : ℕ) (list l w : List ℕ) (thumb : ℕ) (m v m′ v′ : List ℕ) (z : Valid l) (zm : length m ≡ 52) (zm′ : length m′ ≡ 52) (f : KnowsAll m m′) (g : KnowsAll v v′) where
+  abbrev st : State
+  st = decodedState l w thumb
+
+  abbrev μ : Map
+  μ = decodedMap m v
+
+  abbrev ν : Map
+  ν = decodedMap m′ v′
+
+  replies : limitOf base list st μ ≡ 0 → limitOf base list st ν ≡ 0
+      → NoLess (reportedWatch (watchReply base list st μ)) (reportedWatch (watchReply base list st ν)) (reportedWatch (watchReply base (take (watchReply base list st μ .count) list) st ν))
+  replies e e′ =
+      let c = watchReply base list st μ .count in
+      let zs = sized (eqb thumb 1) l (z .words) in
+      let zμ = mapped m v zm in
+      let zν = mapped m′ v′ zm′ in
+      let y = Run.same-size base list st μ ν zμ zν e e′ in
+      let k = decoded-known m m′ v v′ (y .words) f g in
+      let x = Run.more-known base list st μ ν zμ zν e e′ k in
+      let o = Run.size-left base list st μ ν zμ zν e e′ k in
+      let first = Run.first-within base list st ν c e′ in
+      let pμ = sizes-left base list st μ e (zs, zμ) .1 in
+      let pν = sizes-left base (take c list) st ν first (zs, zν) .1 in
+      record {
+        count = x .count;
+        reached = x .reached;
+        marks = marks-known _ _ pμ pν (o .words) (x .known);
+        windowMarks = window-known _ _ pμ pν (o .words) (x .known);
+      }
+
+no-less : (base : ℕ) (list l w : List ℕ) (thumb : ℕ) (m v a m′ v′ a′ : List ℕ) → watched base list l m w v thumb a .result < 100 → watched base list l m′ w v′ thumb a′ .result < 100
+    → KnowsAll m m′ → KnowsAll v v′
+    → NoLess (watched base list l m w v thumb a) (watched base list l m′ w v′ thumb a′) (watched base (take (countOf (watched base list l m w v thumb a)) list) l m′ w v′ thumb a′)
+no-less base list l w thumb m v a m′ v′ a′ h h′ f g =
+    let u = not-invalid base list l m w v thumb a h in
+    let u′ = not-invalid base list l m′ w v′ thumb a′ h′ in
+    let e = not-refused base list (decodedState l w thumb) (decodedMap m v) (rw u at h) in
+    let e′ = not-refused base list (decodedState l w thumb) (decodedMap m′ v′) (rw u′ at h′) in
+    rw (u, u′)
+    (replies base list l w thumb m v m′ v′ (valid-watch-state l m thumb (length a) true (sym u) refl) (valid-watch-marks l m thumb (length a) true (sym u) refl) (valid-watch-marks l m′ thumb (length a′) true (sym u′) refl) f g e e′)
+
+pub more-known : (base : ℕ) (list l m w v : List ℕ) (thumb : ℕ) (a : List ℕ) → MoreKnown base list l m w v thumb a (watched base list l m w v thumb a)
+more-known base list l m w v thumb a =
+    record {
+      more = λ m′ v′ a′ h h′ f g. no-less base list l w thumb m v a m′ v′ a′ h h′ f g;
+      fewer = λ m′ v′ a′ h h′ f g. no-less base list l w thumb m′ v′ a′ m v a h′ h f g;
+    }
