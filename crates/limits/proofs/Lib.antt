@@ -1,2 +1,3 @@
--- The laws of the limits.
+-- The laws of the limits and of the window marks.
 pub mod Limits
+mod Bytes

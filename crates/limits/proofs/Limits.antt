@@ -1,31 +1,14 @@
--- The laws of the limits: marks one by one, and what a run within the limits is.
-use Prim.Native.Nat.{ℕ, zero, suc, _+_, _<_, _≤_}
+-- The laws of the limits: what a run within them is.
+use Prim.Native.Nat.{ℕ, zero, suc, _≤_}
 use native.Mathlib.Omega.{arith}
-use native.Mathlib.Numerals.{add-one}
 use mathlib.Core.Path.{_≡_, refl}
 use mathlib.Core.Bool.{Bool, true, false, cond}
 use mathlib.Core.List.{List}
 use lib.Dec.{eqb, ltb}
-use lib.ListN.{length, getD, drop, drop-of-length-le}
-use lib.Seq.{drop-cons}
-use borrow.Author.Tests.{ne-eqb, eqb-true, ltb-false, lt-ltb, le-ltb}
+use lib.ListN.{length}
+use borrow.Author.Tests.{ne-eqb, eqb-true, ltb-false, le-ltb}
 use Rattle.limits.specs.Marks.{bitsOnly}
 use Rattle.limits.specs.Limit.{mostList, windowLimit, runLimit, watchLimit}
-
--- ---- the window marks, one by one
-
-pub bits-end : (l : List ℕ) (i : ℕ) → length l ≤ i → true ≡ bitsOnly (drop i l)
-unfolding bitsOnly
-bits-end l i h = rw (drop-of-length-le l h)
-
-module _ (l : List ℕ) (i : ℕ) (h : i < length l) where
-  pub bits-on : getD l i 0 ≤ 1 → bitsOnly (drop (i + 1) l) ≡ bitsOnly (drop i l)
-  unfolding bitsOnly
-  bits-on e = rw (add-one i, drop-cons l i 0, lt-ltb (getD l i 0) 2 (omega arith))
-
-  pub bits-not : 1 < getD l i 0 → false ≡ bitsOnly (drop i l)
-  unfolding bitsOnly
-  bits-not e = rw (drop-cons l i 0, le-ltb (getD l i 0) 2 (omega arith))
 
 -- ---- within the limits
 

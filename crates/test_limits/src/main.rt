@@ -1,5 +1,7 @@
 // The limits of a run: each refusal on its edge and one below it, where two apply the first, and the words not yet run after a stop. It prints
-// for each run its kind by the number, its count, and how many words are left; for each watched run whether all is as it came.
+// for each run its kind by the number, its count, and how many words are left; for each watched run whether all is as it came; and how many runs with one
+// bad mark are refused.
+mod marks;
 mod watched;
 
 ghost use Prim.Native.Nat.{_≤_};
@@ -140,4 +142,5 @@ fn main() {
     stops();
     past();
     watched::watched();
+    marks::marks();
 }

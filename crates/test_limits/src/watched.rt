@@ -143,8 +143,14 @@ fn put(marks: &mut [u8], at: usize, mark: u8) {
     }
 }
 
-fn ran(
-    name: &[u8],
+// What a run answers, and whether all is as it came.
+pub struct Seen {
+    pub kind: u64,
+    pub count: usize,
+    pub same: bool,
+}
+
+pub fn answer_of(
     thumb: bool,
     window: &mut [u32],
     marks: &mut [u8],
@@ -152,7 +158,7 @@ fn ran(
     list: &[u32],
     at: usize,
     mark: u8,
-) {
+) -> Seen {
     put(marks, at, mark);
     let done = watch::watch(given(thumb), given_marks(), window, marks, base, list);
     let stop = done.stop;
@@ -163,7 +169,25 @@ fn ran(
         & marks_as_given(known)
         & all_are(window, 0x5A5A_5A5A)
         & window_marks_as_given(marks, at, mark);
-    line(name, kind(stop), count, same);
+    Seen {
+        kind: kind(stop),
+        count,
+        same,
+    }
+}
+
+fn ran(
+    name: &[u8],
+    thumb: bool,
+    window: &mut [u32],
+    marks: &mut [u8],
+    base: u32,
+    list: &[u32],
+    at: usize,
+    mark: u8,
+) {
+    let s = answer_of(thumb, window, marks, base, list, at, mark);
+    line(name, s.kind, s.count, s.same);
 }
 
 // Refusal 6: the window marks are not as many as the window words.

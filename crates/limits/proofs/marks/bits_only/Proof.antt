@@ -4,8 +4,10 @@ use lib.ListN.{length, drop}
 use native.Mathlib.Omega.{arith}
 use mathlib.Core.Path.{_≡_, refl, _∙_}
 use denote.Ref.{now}
+use borrow.Author.Needs.{needs}
+use borrow.Author.Tests.{not-true, not-false}
 use Rattle.limits.specs.Marks.{bitsOnly}
-use Rattle.limits.proofs.Limits.{bits-not, bits-on, bits-end}
+use Rattle.limits.proofs.Bytes.{word-test, eight-on, eight-not}
 use Rattle.limits.proofs.marks.bits_only.Statement.{statement}
 use Rattle.limits.proofs.marks.bits_only.Tie as tie
 
@@ -18,11 +20,17 @@ abbrev μ-loop : tie.MeasureT-loop
 loop-holds : tie.Need-loop-holds Inv-loop μ-loop
 loop-holds c = (omega arith, refl)
 
-shared-slice-read-if1 : tie.Need-shared-slice-read-if1 Inv-loop μ-loop
-shared-slice-read-if1 c = omega arith
+sub-loop : tie.Need-sub-loop Inv-loop μ-loop
+sub-loop c = omega arith
+
+word-requires : tie.Need-word-requires Inv-loop μ-loop
+word-requires c κs = omega arith
+
+word-bits-only-requires : tie.Need-word-bits-only-requires Inv-loop μ-loop
+word-bits-only-requires c κs = search needs
 
 returns : tie.Need-returns Inv-loop μ-loop
-returns c = bits-not (now (c .before .before .before .before .args .marks)) (c .before .before .before .loop .i) (c .before .before .loop-test .taken) (c .if1 .taken) ∙ c .before .before .before .loop .inv .1
+returns c = eight-not (now (c .before .before .before .before .before .before .args .marks)) (c .before .before .before .before .loop .i) (word-test (now (c .before .before .before .before .before .before .args .marks)) (λ k. omega (arith, c .before .before .before .before .before .shared-slice-known .given k)) (c .before .before .before .before .loop .i) (c .before .before .word .result) (c .before .word-bits-only .result) (omega arith) (c .before .before .word .ensures) (c .before .word-bits-only .ensures) ∙ not-true (c .before .word-bits-only .result) (c .if1 .taken)) ∙ c .before .before .before .before .loop .inv .1
 
 add-i : tie.Need-add-i Inv-loop μ-loop
 add-i c = omega arith
@@ -31,10 +39,13 @@ loop-less : tie.Need-loop-less Inv-loop μ-loop
 loop-less c = omega arith
 
 loop-again : tie.Need-loop-again Inv-loop μ-loop
-loop-again c = (omega arith, bits-on (now (c .before .before .before .before .args .marks)) (c .before .before .before .loop .i) (c .before .before .loop-test .taken) (c .if1 .left) ∙ c .before .before .before .loop .inv .1)
+loop-again c = (omega arith, eight-on (now (c .before .before .before .before .before .before .args .marks)) (c .before .before .before .before .loop .i) (word-test (now (c .before .before .before .before .before .before .args .marks)) (λ k. omega (arith, c .before .before .before .before .before .shared-slice-known .given k)) (c .before .before .before .before .loop .i) (c .before .before .word .result) (c .before .word-bits-only .result) (omega arith) (c .before .before .word .ensures) (c .before .word-bits-only .ensures) ∙ not-false (c .before .word-bits-only .result) (c .if1 .left)) ∙ c .before .before .before .before .loop .inv .1)
+
+bits-only-from-requires : tie.Need-bits-only-from-requires Inv-loop μ-loop
+bits-only-from-requires c κs = search needs
 
 returns-2 : tie.Need-returns-2 Inv-loop μ-loop
-returns-2 c = bits-end (now (c .before .before .args .marks)) (c .before .loop .i) (c .loop-test .left) ∙ c .before .loop .inv .1
+returns-2 c = c .bits-only-from .ensures ∙ c .before .before .loop .inv .1
 
 pub bits-only-spec : {M : Type 1} → statement M
 bits-only-spec =
@@ -43,9 +54,12 @@ bits-only-spec =
     Inv-loop
     μ-loop
     loop-holds
-    shared-slice-read-if1
+    sub-loop
+    word-requires
+    word-bits-only-requires
     returns
     add-i
     loop-less
     loop-again
+    bits-only-from-requires
     returns-2)
