@@ -2,6 +2,7 @@
 ghost use mathlib.Core.Path.{_≡_};
 ghost use mathlib.Core.List.{_++_};
 ghost use Prim.Native.Nat.{_%_, _^_};
+ghost use Rattle.machine.specs.Place.{number, core};
 ghost use Rattle.text.specs.Text.{textOf, clip};
 ghost use Rattle.report.specs.Place.{markedAt, wordAt, knownAt, valueAt};
 ghost use Rattle.report.specs.Line.{namedText, wordText, lastText, r15Text, hungText, stopText, ranText, unknownText, valueText, changeText};
@@ -80,7 +81,7 @@ pub fn stop(
     state: &[u32],
     marks: &[u8],
 ) -> Text
-    ensures { λ r. ⌜ textOf r ≡ clip (stopText kind count place address (now (list .entry)) (markedAt (now (marks .entry)) 47) (wordAt (now (state .entry)) 47)) ⌝ }
+    ensures { λ r. ⌜ textOf r ≡ clip (stopText kind count place address (now (list .entry)) (markedAt (now (marks .entry)) (number (core 15))) (wordAt (now (state .entry)) (number (core 15)))) ⌝ }
 {
     let known = marked(marks, PC);
     let r15 = word(state, PC);
