@@ -20,6 +20,7 @@ extern "C" {
 #define FPU_ANSWER_WORDS 4
 #define FPU_WINDOW_MOST_WORDS 16384
 #define FPU_LIST_MOST_WORDS 4096
+#define FPU_MOST_ROUTINES 8
 
 /* A state's words: s0 to s31, r0 to r15, and then these. A bit outside a place's own has to be 0. */
 #define FPU_PLACE_S0 0
@@ -41,7 +42,7 @@ extern "C" {
 #define FPU_UNDEFINED 2 /* has an address and a word */
 #define FPU_BRANCHED 3
 #define FPU_HANGS 4     /* of the watched run only; has a place */
-#define FPU_REFUSED 100 /* 100 + n for refusal n; everything is as it came, and the answer's words are 0 */
+#define FPU_REFUSED 100 /* 100 + n for refusal n; everything is as it came, and the answer's words, or grants, are 0 */
 #define FPU_REFUSED_LIST_LONG 101        /* of runs only: more than 4,096 words */
 #define FPU_REFUSED_WINDOW_LONG 102      /* more than 16,384 words */
 #define FPU_REFUSED_BASE_ALIGNMENT 103   /* the base is no multiple of 4 */
@@ -49,9 +50,12 @@ extern "C" {
 #define FPU_REFUSED_THUMB 105            /* of runs only: thumb is 1 */
 #define FPU_REFUSED_WINDOW_MARKS 106     /* of the watched run only: not as many window marks as window words */
 #define FPU_REFUSED_WINDOW_MARK 107      /* of the watched run only: a window mark that is neither 0 nor 1 */
+#define FPU_REFUSED_ROUTINES 114         /* of fpu_grant only: no routine or more than eight */
+#define FPU_REFUSED_SHARE 115            /* of fpu_grant only: a share above its limit */
+#define FPU_REFUSED_SHARES 116           /* of fpu_grant only: shares that add up to more than the period */
 
 /* Tested first, touching nothing: a state, marks or an answer of another length, a bit of the state outside a place's own, a mark of
- * places 0 to 51 or a thumb that is neither 0 nor 1. */
+ * places 0 to 51 or a thumb that is neither 0 nor 1; lists of unequal lengths. */
 #define FPU_INVALID_ARGUMENT 255
 
 /* Makes the state a new machine's: all zero but FPEXC, 0x40000000. Gives FPU_FINISHED, or FPU_INVALID_ARGUMENT where it has not 52 words. */
@@ -88,6 +92,14 @@ uint32_t fpu_watch(uint32_t *state, size_t state_words, uint8_t *marks, size_t m
 /* Whether an instruction of a condition (its low four bits) is executed under the flags of place 51: 1 or 0, or FPU_INVALID_ARGUMENT where
  * another bit of nzcv is set. */
 uint32_t fpu_check_condition(uint32_t condition, uint32_t nzcv);
+
+/* Grants the words of a period to routines, each of a share, a limit and a number of words left: first to each the smaller of its share and its
+ * words left, then what remains of the period in order from the first, round and round, one word at a time, to those under their limit with words
+ * left. Nobody gets more than its limit or its words left, the grants together never exceed the period, and part of it stays unused only if no
+ * routine could take another word. Gives FPU_FINISHED; FPU_INVALID_ARGUMENT, the grants as they came, where the four lengths differ; or the first
+ * of refusals 114 to 116 that applies, with every grant 0. Its time does not grow with the period. */
+uint32_t fpu_grant(uint32_t period, const uint32_t *shares, size_t shares_words, const uint32_t *limits, size_t limits_words,
+                   const uint32_t *left, size_t left_words, uint32_t *grants, size_t grants_words);
 
 #ifdef __cplusplus
 }

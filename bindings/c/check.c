@@ -382,17 +382,57 @@ static void conditions(void)
         condition(14, 0x40000000 + bit, FPU_INVALID_ARGUMENT);
 }
 
+/* A period's grants to so many routines; the lists have an element more than a call may touch. */
+static void granted(const char *name, uint32_t period, const uint32_t shares[10], const uint32_t limits[10], const uint32_t left[10],
+                    size_t routines, uint32_t expected, const uint32_t grants[10])
+{
+    uint32_t lent[10];
+    doing = name;
+    for (size_t i = 0; i < 10; i++)
+        lent[i] = 0xA5A5A5A5;
+    result(fpu_grant(period, shares, routines, limits, routines, left, routines, lent, routines), expected);
+    same_bytes("the grants", lent, grants, routines * sizeof *lent);
+    same("the word after them", lent[routines], 0xA5A5A5A5);
+}
+
+static void grants(void)
+{
+    static const uint32_t none[10], threes[10] = {3, 3, 3, 3, 3, 3, 3, 3, 3, 3};
+    static const uint32_t most[10] = {0xFFFFFFFF, 0xFFFFFFFF, 0xFFFFFFFF, 0xFFFFFFFF, 0xFFFFFFFF, 0xFFFFFFFF, 0xFFFFFFFF, 0xFFFFFFFF};
+    granted("two of period 3", 3, none, threes, threes, 2, FPU_FINISHED, (const uint32_t[10]){2, 1});
+    granted("a period that is not used up", 9, none, threes, (const uint32_t[10]){2, 9}, 2, FPU_FINISHED, (const uint32_t[10]){2, 3});
+    granted("eight of the largest period", 0xFFFFFFFF, none, most, most, 8, FPU_FINISHED,
+            (const uint32_t[10]){0x20000000, 0x20000000, 0x20000000, 0x20000000, 0x20000000, 0x20000000, 0x20000000, 0x1FFFFFFF});
+    granted("no routine", 3, none, none, none, 0, FPU_REFUSED_ROUTINES, none);
+    granted("nine routines", 3, threes, none, none, 9, FPU_REFUSED_ROUTINES, none);
+    granted("a share above its limit", 0, threes, none, threes, 2, FPU_REFUSED_SHARE, none);
+    granted("shares above the period", 1, (const uint32_t[10]){2}, (const uint32_t[10]){2}, none, 1, FPU_REFUSED_SHARES, none);
+    granted("shares that add up past 2^32", 0xFFFFFFFF, most, most, none, 2, FPU_REFUSED_SHARES, none);
+
+    /* one of the four lengths is another: the grants stay as they are */
+    for (int which = 0; which < 4; which++) {
+        uint32_t lent[3] = {7, 7, 7};
+        size_t lengths[4] = {2, 2, 2, 2};
+        lengths[which] = which % 2 ? 1 : 3;
+        doing = "grants of unequal lengths";
+        result(fpu_grant(9, none, lengths[0], threes, lengths[1], threes, lengths[2], lent, lengths[3]), FPU_INVALID_ARGUMENT);
+        same_bytes("the grants", lent, (const uint32_t[3]){7, 7, 7}, sizeof lent);
+    }
+}
+
 int main(void)
 {
     static const uint32_t every[] = {FPU_FINISHED, FPU_FOREIGN, FPU_UNDEFINED, FPU_BRANCHED, FPU_HANGS, FPU_REFUSED_LIST_LONG,
                                      FPU_REFUSED_WINDOW_LONG, FPU_REFUSED_BASE_ALIGNMENT, FPU_REFUSED_WINDOW_END, FPU_REFUSED_THUMB,
-                                     FPU_REFUSED_WINDOW_MARKS, FPU_REFUSED_WINDOW_MARK, FPU_INVALID_ARGUMENT};
+                                     FPU_REFUSED_WINDOW_MARKS, FPU_REFUSED_WINDOW_MARK, FPU_REFUSED_ROUTINES, FPU_REFUSED_SHARE, FPU_REFUSED_SHARES,
+                                     FPU_INVALID_ARGUMENT};
     new_machine();
     single_calls();
     runs();
     refusals();
     invalid_arguments();
     conditions();
+    grants();
     doing = "every result is seen";
     for (size_t i = 0; i < sizeof every / sizeof *every; i++)
         same("one", seen[every[i]], 1);

@@ -50,6 +50,17 @@ extern "C" {
         answer_words: usize,
     ) -> c_uint;
     fn fpu_check_condition(condition: u32, nzcv: u32) -> c_uint;
+    fn fpu_grant(
+        period: u32,
+        shares: *const u32,
+        shares_words: usize,
+        limits: *const u32,
+        limits_words: usize,
+        left: *const u32,
+        left_words: usize,
+        grants: *mut u32,
+        grants_words: usize,
+    ) -> c_uint;
 }
 
 /// The functions as C has them, over slices of any length: the result, as include/fpu.h numbers it.
@@ -132,6 +143,22 @@ pub mod raw {
 
     pub fn check_condition(condition: u32, nzcv: u32) -> u32 {
         unsafe { super::fpu_check_condition(condition, nzcv) }
+    }
+
+    pub fn grant(period: u32, shares: &[u32], limits: &[u32], left: &[u32], grants: &mut [u32]) -> u32 {
+        unsafe {
+            super::fpu_grant(
+                period,
+                shares.as_ptr(),
+                shares.len(),
+                limits.as_ptr(),
+                limits.len(),
+                left.as_ptr(),
+                left.len(),
+                grants.as_mut_ptr(),
+                grants.len(),
+            )
+        }
     }
 }
 
@@ -251,5 +278,27 @@ impl Machine {
             255 => Err(InvalidArgument),
             held => Ok(held == 1),
         }
+    }
+}
+
+/// A routine that takes words of a period.
+#[derive(Clone, Copy, PartialEq, Eq, Debug)]
+pub struct Routine {
+    pub share: u32,
+    pub limit: u32,
+    pub left: u32,
+}
+
+/// Why routines are turned away: refusal 14, 15 or 16.
+#[derive(Clone, Copy, PartialEq, Eq, Debug)]
+pub struct TurnedAway(pub u8);
+
+/// what each routine is granted of a period.
+pub fn grant(period: u32, routines: &[Routine]) -> Result<Vec<u32>, TurnedAway> {
+    let column = |field: fn(&Routine) -> u32| routines.iter().map(field).collect::<Vec<u32>>();
+    let mut grants = vec![0; routines.len()];
+    match raw::grant(period, &column(|r| r.share), &column(|r| r.limit), &column(|r| r.left), &mut grants) {
+        0 => Ok(grants),
+        refused => Err(TurnedAway((refused - 100) as u8)),
     }
 }

@@ -1,6 +1,6 @@
 //! A few calls by the wrapper, and what 255 does.
 
-use fpu::{raw, Exit, InvalidArgument, Machine, Ran, Stop};
+use fpu::{grant, raw, Exit, InvalidArgument, Machine, Ran, Routine, Stop, TurnedAway};
 
 #[test]
 fn a_new_machine() {
@@ -121,4 +121,19 @@ fn a_watched_run() {
     marks[3] = 2;
     assert_eq!(m.watch(&mut marks, &mut [5], &mut [2], 0, &LIST), Err(InvalidArgument));
     assert_eq!((m, marks[3]), (before, 2));
+}
+
+#[test]
+fn grants() {
+    let routine = |share, limit, left| Routine { share, limit, left };
+    assert_eq!(grant(3, &[routine(0, 3, 3); 2]), Ok(vec![2, 1]));
+    assert_eq!(grant(9, &[routine(1, 3, 2), routine(1, 2, 9)]), Ok(vec![2, 2]));
+    assert_eq!(grant(u32::MAX, &[routine(0, u32::MAX, u32::MAX); 8]).unwrap()[6..], [0x2000_0000, 0x1FFF_FFFF]);
+    assert_eq!(grant(3, &[]), Err(TurnedAway(14)));
+    assert_eq!(grant(3, &[routine(0, 0, 0); 9]), Err(TurnedAway(14)));
+    assert_eq!(grant(3, &[routine(2, 1, 0)]), Err(TurnedAway(15)));
+    assert_eq!(grant(1, &[routine(2, 2, 0)]), Err(TurnedAway(16)));
+    let mut lent = [7; 2];
+    assert_eq!((raw::grant(3, &[0; 2], &[3; 3], &[3; 2], &mut lent), lent), (255, [7; 2]));
+    assert_eq!((raw::grant(1, &[2; 2], &[2; 2], &[0; 2], &mut lent), lent), (116, [0; 2]));
 }

@@ -9,3 +9,4 @@ pub mod Numbered
 pub mod NonInterference
 pub mod More
 pub mod Watches
+pub mod Grants

@@ -4,3 +4,5 @@ pub mod WatchOutcome
 pub mod Buffers
 pub mod More
 pub mod WatchPromise
+pub mod Grant
+pub mod GrantPromise

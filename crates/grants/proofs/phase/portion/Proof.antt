@@ -1,0 +1,16 @@
+-- `grants::phase::portion` meets its contract.
+use Rattle.grants.specs.Phase.{extra}
+use borrow.Author.Tests.{lt-ltb, le-ltb}
+use Rattle.grants.proofs.phase.portion.Statement.{statement}
+use Rattle.grants.proofs.phase.portion.Tie as tie
+
+returns : tie.Need-returns
+unfolding extra
+returns c = rw (lt-ltb _ _ (c .if1 .taken))
+
+returns-2 : tie.Need-returns-2
+unfolding extra
+returns-2 c = rw (le-ltb _ _ (c .if1 .left))
+
+pub portion-spec : {M : Type 1} → statement M
+portion-spec = tie.close (tie.spec returns returns-2)
