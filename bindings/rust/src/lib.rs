@@ -293,7 +293,7 @@ pub struct Routine {
 #[derive(Clone, Copy, PartialEq, Eq, Debug)]
 pub struct TurnedAway(pub u8);
 
-/// what each routine is granted of a period.
+/// What each routine is granted of a period.
 pub fn grant(period: u32, routines: &[Routine]) -> Result<Vec<u32>, TurnedAway> {
     let column = |field: fn(&Routine) -> u32| routines.iter().map(field).collect::<Vec<u32>>();
     let mut grants = vec![0; routines.len()];
