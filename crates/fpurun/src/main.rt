@@ -45,7 +45,7 @@ fn run_text(text: &[u8]) {
         &mut list,
     );
     match taken {
-        Taken::Wrong { line, mistake } => mistakes::tell(line, mistake),
+        Taken::Wrong { line, mistake } => mistakes::print_mistake(line, mistake),
         Taken::All(layout) => run_list(layout, state, marks, window, window_marks, list),
     }
 }

@@ -1,6 +1,6 @@
 // A mistake in a text, told with its line and what was expected there.
 use super::output::low;
-use super::output::say;
+use super::output::print;
 use libc::STDOUT_FILENO;
 use listing::line::Expected;
 use script::mistake::Mistake;
@@ -14,22 +14,22 @@ fn begun(line: usize) -> Text {
 }
 
 fn expected(line: usize, what: &[u8]) {
-    say(begun(line));
+    print(begun(line));
     io::write_all(STDOUT_FILENO, what);
     io::write_all(STDOUT_FILENO, b"\n");
 }
 
-pub fn tell(line: usize, mistake: Mistake) {
+pub fn print_mistake(line: usize, mistake: Mistake) {
     match mistake {
-        Mistake::Item(e) => tell_item(line, e),
-        Mistake::Beyond(words) => tell_beyond(line, words),
+        Mistake::Item(e) => print_item(line, e),
+        Mistake::Beyond(words) => print_beyond(line, words),
         Mistake::Words => expected(line, b"at most 4096 instruction words"),
         Mistake::Again => expected(line, b"one window only"),
-        Mistake::Refused(n) => tell_refused(line, n),
+        Mistake::Refused(n) => print_refused(line, n),
     }
 }
 
-fn tell_item(line: usize, e: Expected) {
+fn print_item(line: usize, e: Expected) {
     match e {
         Expected::Item => expected(
             line,
@@ -48,12 +48,12 @@ fn tell_item(line: usize, e: Expected) {
     }
 }
 
-fn tell_beyond(line: usize, words: usize) {
+fn print_beyond(line: usize, words: usize) {
     let t = begun(line).add(b"a place of the machine or of the window, which has ");
-    say(t.add_decimal(low(words)).add(b" words\n"));
+    print(t.add_decimal(low(words)).add(b" words\n"));
 }
 
-fn tell_refused(line: usize, n: u8) {
+fn print_refused(line: usize, n: u8) {
     match n {
         2 => expected(line, b"a window of at most 16384 words"),
         3 => expected(line, b"a base that is a multiple of 4"),

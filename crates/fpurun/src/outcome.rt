@@ -1,5 +1,5 @@
 // Writes what came of a run: the stop, the places that are unknown, and what changed. What each line says is crate `report`'s.
-use super::output::say;
+use super::output::print;
 use libc::STDOUT_FILENO;
 use machine::place::WINDOW;
 use report::line;
@@ -13,9 +13,9 @@ fn text(b: &[u8]) {
 // The stop of a run by the number of its kind, with the count, the place, the address and the word of its answer.
 pub fn stop(kind: u32, answer: [u32; 4], list: &[u32], state: &[u32], marks: &[u8]) {
     let count = answer[0] as usize;
-    say(line::stop(kind, count, answer[1], answer[2], list, state, marks));
+    print(line::stop(kind, count, answer[1], answer[2], list, state, marks));
     text(b"\n");
-    say(line::ran(count, list.len()));
+    print(line::ran(count, list.len()));
     text(b"\n");
 }
 
@@ -25,7 +25,7 @@ pub fn unknown(marks: &[u8], window_marks: &[u8]) {
     let mut first = true;
     let mut p = next_unknown(marks, window_marks, 0, end);
     while p < end {
-        say(line::unknown(first, p));
+        print(line::unknown(first, p));
         first = false;
         p = next_unknown(marks, window_marks, p + 1, end);
     }
@@ -50,7 +50,7 @@ pub fn changed(
     let mut none = true;
     let mut p = next_change(state, marks, window, window_marks, s, m, w, v, 0, end);
     while p < end {
-        say(line::change(state, marks, window, window_marks, s, m, w, v, p));
+        print(line::change(state, marks, window, window_marks, s, m, w, v, p));
         none = false;
         p = next_change(state, marks, window, window_marks, s, m, w, v, p + 1, end);
     }

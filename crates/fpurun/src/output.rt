@@ -2,7 +2,7 @@
 use libc::STDOUT_FILENO;
 use text::text::Text;
 
-pub fn say(t: Text) {
+pub fn print(t: Text) {
     let n = t.count;
     let b = t.bytes;
     if n <= 128 {

@@ -82,44 +82,44 @@ fn counted(t: Tally, b: &[u8; 512], same: bool) -> Tally {
     }
 }
 
-fn say(text: &[u8]) {
+fn print(text: &[u8]) {
     io::write_all(STDOUT_FILENO, text);
 }
 
-fn say_hex(text: &[u8], x: u32) {
-    say(text);
+fn print_hex(text: &[u8], x: u32) {
+    print(text);
     io::print_hex(STDOUT_FILENO, x as u64, 8);
 }
 
-fn say_words(text: &[u8], b: &[u8; 512], from: usize, count: usize)
+fn print_words(text: &[u8], b: &[u8; 512], from: usize, count: usize)
     requires { ⌜ from + count < 1000 ⌝ }
 {
-    say(text);
+    print(text);
     let mut i: usize = 0;
     while i < count {
-        say_hex(b" ", word(b, from + i));
+        print_hex(b" ", word(b, from + i));
         i += 1;
     }
-    say(b"\n");
+    print(b"\n");
 }
 
 // A record that is answered otherwise: its input, what was recorded and what differs first.
 fn differs(b: &[u8; 512], kind: u32, place: usize, got: u32) -> bool {
-    say_hex(b"differs: call ", word(b, CALL));
-    say_hex(b" thumb ", word(b, THUMB));
-    say_hex(b" word ", word(b, WORD));
-    say_hex(b" base ", word(b, BASE));
-    say_hex(b" window words ", word(b, WINDOW_WORDS));
-    say_words(b"\n  state", b, GIVEN, 52);
-    say_words(b"  window", b, GIVEN_WINDOW, 8);
-    say_hex(b"  recorded kind ", word(b, KIND));
-    say_hex(b" address ", word(b, ADDRESS));
-    say_hex(b" word ", word(b, REPORTED));
-    say_hex(b"; got kind ", kind);
-    say(b", first other word: ");
+    print_hex(b"differs: call ", word(b, CALL));
+    print_hex(b" thumb ", word(b, THUMB));
+    print_hex(b" word ", word(b, WORD));
+    print_hex(b" base ", word(b, BASE));
+    print_hex(b" window words ", word(b, WINDOW_WORDS));
+    print_words(b"\n  state", b, GIVEN, 52);
+    print_words(b"  window", b, GIVEN_WINDOW, 8);
+    print_hex(b"  recorded kind ", word(b, KIND));
+    print_hex(b" address ", word(b, ADDRESS));
+    print_hex(b" word ", word(b, REPORTED));
+    print_hex(b"; got kind ", kind);
+    print(b", first other word: ");
     io::print_decimal(STDOUT_FILENO, place as u64);
-    say_hex(b" got ", got);
-    say(b"\n");
+    print_hex(b" got ", got);
+    print(b"\n");
     false
 }
 
@@ -241,9 +241,9 @@ fn read_all(fd: i32) -> Tally {
 }
 
 fn count(text: &[u8], n: u64) {
-    say(text);
+    print(text);
     io::print_decimal(STDOUT_FILENO, n);
-    say(b"\n");
+    print(b"\n");
 }
 
 fn main() {

@@ -46,7 +46,7 @@ fn kind(k: u64) -> Arithmetic {
 }
 
 // 1 where the flags are these.
-fn told(flags: u32, these: u32) -> u64 {
+fn flag(flags: u32, these: u32) -> u64 {
     if flags == these { 1 } else { 0 }
 }
 
@@ -62,8 +62,8 @@ fn single(w: Work) -> u64 {
         0x24 => wide(from_integer32(false, a)),
         0x25 => wide(to_integer32(rounding_of(w.control), true, a)),
         0x26 => wide(to_integer32(rounding_of(w.control), false, a)),
-        0x27 => told(compare32(a, low(w.m)), 0b0110),
-        _ => told(compare32(a, low(w.m)), 0b1000),
+        0x27 => flag(compare32(a, low(w.m)), 0b0110),
+        _ => flag(compare32(a, low(w.m)), 0b1000),
     }
 }
 
@@ -79,8 +79,8 @@ fn double(w: Work) -> u64 {
         0x34 => from_integer64(false, low(a)),
         0x35 => wide(to_integer64(rounding_of(w.control), true, a)),
         0x36 => wide(to_integer64(rounding_of(w.control), false, a)),
-        0x37 => told(compare64(a, w.m), 0b0110),
-        _ => told(compare64(a, w.m), 0b1000),
+        0x37 => flag(compare64(a, w.m), 0b0110),
+        _ => flag(compare64(a, w.m), 0b1000),
     }
 }
 

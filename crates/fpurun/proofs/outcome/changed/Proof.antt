@@ -29,8 +29,8 @@ loop-holds c = tt
 change-requires : tie.Need-change-requires Inv-loop μ-loop
 change-requires c κs = search needs
 
-say-requires : tie.Need-say-requires Inv-loop μ-loop
-say-requires c κs = search needs
+print-requires : tie.Need-print-requires Inv-loop μ-loop
+print-requires c κs = search needs
 
 add-next-change : tie.Need-add-next-change Inv-loop μ-loop
 add-next-change c = omega (arith, add-end (c .before .before .before .before .before), c .before .before .loop-test .taken)
@@ -71,7 +71,7 @@ changed-spec =
     next-change-requires
     loop-holds
     change-requires
-    say-requires
+    print-requires
     add-next-change
     next-change-requires-2
     loop-less

@@ -29,8 +29,8 @@ loop-holds c = tt
 unknown-requires : tie.Need-unknown-requires Inv-loop μ-loop
 unknown-requires c κs = search needs
 
-say-requires : tie.Need-say-requires Inv-loop μ-loop
-say-requires c κs = search needs
+print-requires : tie.Need-print-requires Inv-loop μ-loop
+print-requires c κs = search needs
 
 add-next-unknown : tie.Need-add-next-unknown Inv-loop μ-loop
 add-next-unknown c = search needs
@@ -71,7 +71,7 @@ unknown-spec =
     next-unknown-requires
     loop-holds
     unknown-requires
-    say-requires
+    print-requires
     add-next-unknown
     next-unknown-requires-2
     loop-less
