@@ -1,7 +1,7 @@
 // The words of a period, granted to routines.
 ghost use mathlib.Core.Path.{_≡_};
-ghost use Rattle.fpu.specs.Grant.{grantOutcome, grantResult};
-ghost use Rattle.fpu.specs.GrantPromise.{GrantPromise};
+ghost use Rattle.outcomes.specs.Grant.{grantOutcome, grantResult};
+ghost use Rattle.outcomes.specs.GrantPromise.{GrantPromise};
 use super::INVALID_ARGUMENT;
 
 // A refusal, 0 or the answer to lists of unequal lengths, as the result of a call.

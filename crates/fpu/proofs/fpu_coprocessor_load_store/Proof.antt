@@ -2,7 +2,7 @@
 use lib.ListN.{length}
 use borrow.Author.Needs.{needs}
 use Rattle.vfp.specs.Call.{loadStoreReply}
-use Rattle.fpu.proofs.Calls.{valid-call-state, valid-call-answer, not-called, has-called}
+use Rattle.outcomes.proofs.Calls.{valid-call-state, valid-call-answer, not-called, has-called}
 use Rattle.fpu.proofs.fpu_coprocessor_load_store.Statement.{statement}
 use Rattle.fpu.proofs.fpu_coprocessor_load_store.Tie as tie
 

@@ -3,7 +3,7 @@ use lib.ListN.{length}
 use borrow.Author.Needs.{needs}
 use Rattle.transfers.specs.Transfer.{transferTree}
 use Rattle.vfp.specs.Call.{reply}
-use Rattle.fpu.proofs.Calls.{valid-call-state, valid-call-answer, not-called, has-called}
+use Rattle.outcomes.proofs.Calls.{valid-call-state, valid-call-answer, not-called, has-called}
 use Rattle.fpu.proofs.fpu_coprocessor_register.Statement.{statement}
 use Rattle.fpu.proofs.fpu_coprocessor_register.Tie as tie
 

@@ -2,9 +2,9 @@
 use lib.ListN.{length}
 use denote.Ref.{now}
 use borrow.Author.Needs.{needs}
-use Rattle.fpu.proofs.Runs.{not-run, has-run}
+use Rattle.outcomes.proofs.Runs.{not-run, has-run}
 use Rattle.answer.proofs.Bounds.{ran-fits}
-use Rattle.fpu.proofs.Calls.{valid-call-state, valid-call-answer}
+use Rattle.outcomes.proofs.Calls.{valid-call-state, valid-call-answer}
 use Rattle.run.specs.Run.{runReply}
 use Rattle.machine.specs.Place.{state}
 use Rattle.fpu.proofs.fpu_run.Statement.{statement}

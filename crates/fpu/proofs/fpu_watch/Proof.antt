@@ -1,8 +1,8 @@
 -- `fpu::fpu_watch` meets its contract.
 use lib.ListN.{length}
 use borrow.Author.Needs.{needs}
-use Rattle.fpu.proofs.ValidWatch.{valid-watch-state, valid-watch-answer, valid-watch-marks}
-use Rattle.fpu.proofs.Watches.{not-watched, has-watched}
+use Rattle.outcomes.proofs.ValidWatch.{valid-watch-state, valid-watch-answer, valid-watch-marks}
+use Rattle.outcomes.proofs.Watches.{not-watched, has-watched}
 use Rattle.answer.proofs.Bounds.{watched-fits}
 use Rattle.meaning.specs.Map.{mapOf}
 use Rattle.machine.specs.Place.{state}

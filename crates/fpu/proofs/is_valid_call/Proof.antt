@@ -2,7 +2,7 @@
 use native.Mathlib.Omega.{arith}
 use borrow.Author.Tests.{lt-ltb, le-ltb, eq-eqb, ne-eqb}
 use borrow.Author.Needs.{needs}
-use Rattle.fpu.specs.Outcome.{validCall}
+use Rattle.outcomes.specs.Outcome.{validCall}
 use Rattle.fpu.proofs.is_valid_call.Statement.{statement}
 use Rattle.fpu.proofs.is_valid_call.Tie as tie
 

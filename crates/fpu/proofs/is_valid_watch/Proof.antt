@@ -1,7 +1,7 @@
 -- `fpu::is_valid_watch` meets its contract.
 use borrow.Author.Tests.{not-true, not-false}
 use borrow.Author.Needs.{needs}
-use Rattle.fpu.specs.WatchOutcome.{validWatch}
+use Rattle.outcomes.specs.WatchOutcome.{validWatch}
 use Rattle.fpu.proofs.is_valid_watch.Statement.{statement}
 use Rattle.fpu.proofs.is_valid_watch.Tie as tie
 

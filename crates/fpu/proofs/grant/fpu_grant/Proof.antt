@@ -1,5 +1,5 @@
 -- `fpu::grant::fpu_grant` meets its contract.
-use Rattle.fpu.proofs.Grants.{granting}
+use Rattle.outcomes.proofs.Grants.{granting}
 use denote.Ref.{now}
 use borrow.Author.Needs.{needs}
 use Rattle.fpu.proofs.grant.fpu_grant.Statement.{statement}

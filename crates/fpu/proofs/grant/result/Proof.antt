@@ -1,5 +1,5 @@
 -- `fpu::grant::result` meets its contract.
-use Rattle.fpu.specs.Grant.{grantResult}
+use Rattle.outcomes.specs.Grant.{grantResult}
 use borrow.Author.Tests.{eq-eqb, ne-eqb}
 use borrow.Author.Needs.{needs}
 use Rattle.fpu.proofs.grant.result.Statement.{statement}

@@ -4,7 +4,7 @@ use mathlib.Core.Path.{_≡_}
 use mathlib.Core.List.{List}
 use Rattle.grants.specs.Grant.{Reply, answered}
 use Rattle.grants.specs.Promise.{Promise}
-use Rattle.fpu.specs.Grant.{GrantOutcome, reportedGrant}
+use Rattle.outcomes.specs.Grant.{GrantOutcome, reportedGrant}
 
 -- of its outcome x: a period, and the shares, limits, words left and grants at entry
 pub record GrantPromise (period : ℕ) (shares limits left grants : List ℕ) (x : GrantOutcome) : Type 0 where

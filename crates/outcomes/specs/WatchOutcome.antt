@@ -8,7 +8,7 @@ use Rattle.watch.specs.Watch.{Reply, watchReply}
 use Rattle.layout.specs.State.{encode}
 use Rattle.layout.specs.Marks.{encodeMarks, decodeMarks, validMarks}
 use Rattle.answer.specs.Answer.{answerOf}
-use Rattle.fpu.specs.Outcome.{invalidArgument, validCall, decodedState}
+use Rattle.outcomes.specs.Outcome.{invalidArgument, validCall, decodedState}
 
 -- the result, and each lent buffer
 pub record WatchOutcome : Type 0 where

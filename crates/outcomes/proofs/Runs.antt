@@ -14,7 +14,7 @@ use Rattle.run_word.specs.Stop.{stopOf}
 use Rattle.run.specs.Run.{Reply, answered}
 use Rattle.layout.specs.State.{encode, decode}
 use Rattle.answer.specs.Answer.{answerOf}
-use Rattle.fpu.specs.Outcome.{outcome, invalidArgument, validCall, decodedState, ran}
+use Rattle.outcomes.specs.Outcome.{outcome, invalidArgument, validCall, decodedState, ran}
 
 module _ (y : State → Reply) (l w a : List ℕ) (thumb : ℕ) (b : Bool) (u : b ≡ validCall l thumb (length a)) where
   pub not-run : not b ≡ true → outcome invalidArgument l w a ≡ ran y l w thumb a

@@ -9,9 +9,9 @@ use Rattle.layout.specs.State.{Valid}
 use Rattle.layout.specs.Marks.{validMarks}
 use Rattle.layout.proofs.Both.{fst, snd}
 use Rattle.layout.proofs.Bytes.{valid-marks-bytes}
-use Rattle.fpu.specs.Outcome.{validCall}
-use Rattle.fpu.specs.WatchOutcome.{validWatch}
-use Rattle.fpu.proofs.Calls.{valid-call-state, valid-call-answer}
+use Rattle.outcomes.specs.Outcome.{validCall}
+use Rattle.outcomes.specs.WatchOutcome.{validWatch}
+use Rattle.outcomes.proofs.Calls.{valid-call-state, valid-call-answer}
 
 module _ (l m : List ℕ) (thumb n : ℕ) (b : Bool) (u : b ≡ validWatch l m thumb n) (e : not b ≡ false) where
   so : validWatch l m thumb n ≡ true

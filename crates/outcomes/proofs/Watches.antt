@@ -19,14 +19,14 @@ use Rattle.watch.specs.Promise.{Promise}
 use Rattle.layout.specs.State.{encode, decode}
 use Rattle.layout.specs.Marks.{encodeMarks, decodeMarks}
 use Rattle.answer.specs.Answer.{answerOf}
-use Rattle.fpu.specs.Outcome.{invalidArgument, decodedState}
-use Rattle.fpu.specs.WatchOutcome.{watchOutcome, reportedWatch, validWatch, decodedMap, watched, WatchOutcome}
-use Rattle.fpu.specs.Buffers.{UnchangedMarks, NonInterference}
-use Rattle.fpu.specs.More.{MoreKnown}
-use Rattle.fpu.specs.WatchPromise.{WatchPromise}
-use Rattle.fpu.proofs.Unchanged.{unchanged-marks}
-use Rattle.fpu.proofs.NonInterference.{non-interference}
-use Rattle.fpu.proofs.More.{more-known}
+use Rattle.outcomes.specs.Outcome.{invalidArgument, decodedState}
+use Rattle.outcomes.specs.WatchOutcome.{watchOutcome, reportedWatch, validWatch, decodedMap, watched, WatchOutcome}
+use Rattle.outcomes.specs.Buffers.{UnchangedMarks, NonInterference}
+use Rattle.outcomes.specs.More.{MoreKnown}
+use Rattle.outcomes.specs.WatchPromise.{WatchPromise}
+use Rattle.outcomes.proofs.Unchanged.{unchanged-marks}
+use Rattle.outcomes.proofs.NonInterference.{non-interference}
+use Rattle.outcomes.proofs.More.{more-known}
 
 module _ (base : ℕ) (list l m w v : List ℕ) (thumb : ℕ) (a : List ℕ) (b : Bool) (u : b ≡ validWatch l m thumb (length a)) where
   -- what the definition leaves has the promises over the buffers

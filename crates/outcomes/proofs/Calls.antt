@@ -14,7 +14,7 @@ use Rattle.layout.specs.State.{encode, decode, Valid}
 use Rattle.layout.proofs.Both.{fst, snd}
 use Rattle.layout.proofs.Words.{valid-facts}
 use Rattle.answer.specs.Answer.{answerOf}
-use Rattle.fpu.specs.Outcome.{outcome, invalidArgument, validCall, decodedState, called}
+use Rattle.outcomes.specs.Outcome.{outcome, invalidArgument, validCall, decodedState, called}
 
 -- a valid call as facts
 module _ (l : List ℕ) (thumb n : ℕ) (b : Bool) (u : b ≡ validCall l thumb n) (e : not b ≡ false) where

@@ -25,11 +25,11 @@ use Rattle.layout.specs.State.{Valid, encode}
 use Rattle.layout.proofs.Words.{encode-decode}
 use Rattle.layout.proofs.Bytes.{encode-decode-marks}
 use Rattle.answer.proofs.Bounds.{Near, near-data, near-transfer, near-load-store, near-meaning, plain-fine, run-bounded, watch-bounded}
-use Rattle.fpu.specs.Outcome.{outcome, reported, invalidArgument, validCall, decodedState, renewed}
-use Rattle.fpu.specs.WatchOutcome.{watchOutcome, reportedWatch, validWatch, decodedMap, watched}
-use Rattle.fpu.specs.Buffers.{Unchanged, UnchangedMarks, Refusals}
-use Rattle.fpu.proofs.Calls.{valid-call-state}
-use Rattle.fpu.proofs.ValidWatch.{valid-watch-state, valid-watch-bits}
+use Rattle.outcomes.specs.Outcome.{outcome, reported, invalidArgument, validCall, decodedState, renewed}
+use Rattle.outcomes.specs.WatchOutcome.{watchOutcome, reportedWatch, validWatch, decodedMap, watched}
+use Rattle.outcomes.specs.Buffers.{Unchanged, UnchangedMarks, Refusals}
+use Rattle.outcomes.proofs.Calls.{valid-call-state}
+use Rattle.outcomes.proofs.ValidWatch.{valid-watch-state, valid-watch-bits}
 
 -- ---- a reply that is a refusal leaves the state
 

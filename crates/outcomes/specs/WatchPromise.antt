@@ -6,10 +6,10 @@ use mathlib.Core.List.{List}
 use lib.ListN.{length, getD}
 use Rattle.watch.specs.Watch.{Reply}
 use Rattle.watch.specs.Promise.{Promise}
-use Rattle.fpu.specs.Outcome.{decodedState}
-use Rattle.fpu.specs.WatchOutcome.{WatchOutcome, reportedWatch, validWatch, decodedMap, watched}
-use Rattle.fpu.specs.Buffers.{UnchangedMarks, NonInterference}
-use Rattle.fpu.specs.More.{MoreKnown}
+use Rattle.outcomes.specs.Outcome.{decodedState}
+use Rattle.outcomes.specs.WatchOutcome.{WatchOutcome, reportedWatch, validWatch, decodedMap, watched}
+use Rattle.outcomes.specs.Buffers.{UnchangedMarks, NonInterference}
+use Rattle.outcomes.specs.More.{MoreKnown}
 
 -- of its outcome x: a state, marks, a window, its marks, the thumb and an answer at entry
 pub record WatchPromise (base : ℕ) (list l m w v : List ℕ) (thumb : ℕ) (a : List ℕ) (x : WatchOutcome) : Type 0 where

@@ -3,7 +3,7 @@ use Prim.Native.Nat.{ℕ, _<_, _≤_}
 use mathlib.Core.Path.{_≡_}
 use mathlib.Core.List.{List}
 use lib.ListN.{getD, take}
-use Rattle.fpu.specs.WatchOutcome.{WatchOutcome, watched}
+use Rattle.outcomes.specs.WatchOutcome.{WatchOutcome, watched}
 
 -- every entry that is 1 in the first is 1 in the second
 abbrev pub KnowsAll : List ℕ → List ℕ → Type 0

@@ -24,12 +24,12 @@ use Rattle.layout.specs.State.{encode, decode, Valid, inPosition}
 use Rattle.layout.specs.Marks.{boolsOf, encodeMarks, decodeMarks}
 use Rattle.layout.proofs.Words.{place-word, valid-encode}
 use Rattle.limits.proofs.Limits.{marks-within}
-use Rattle.fpu.specs.Outcome.{decodedState}
-use Rattle.fpu.specs.WatchOutcome.{reportedWatch, decodedMap, watched}
-use Rattle.fpu.specs.Buffers.{Same, Alike, NonInterference}
-use Rattle.fpu.proofs.ValidWatch.{valid-watch-state, valid-watch-marks}
-use Rattle.fpu.proofs.Sizes.{Sizes, watch-sizes}
-use Rattle.fpu.proofs.Numbered.{held, decoded-place, decoded-mark, encoded-mark, word-place, inside, one-inside}
+use Rattle.outcomes.specs.Outcome.{decodedState}
+use Rattle.outcomes.specs.WatchOutcome.{reportedWatch, decodedMap, watched}
+use Rattle.outcomes.specs.Buffers.{Same, Alike, NonInterference}
+use Rattle.outcomes.proofs.ValidWatch.{valid-watch-state, valid-watch-marks}
+use Rattle.outcomes.proofs.Sizes.{Sizes, watch-sizes}
+use Rattle.outcomes.proofs.Numbered.{held, decoded-place, decoded-mark, encoded-mark, word-place, inside, one-inside}
 
 -- agreement in the known places before the window
 abbrev AgreeBefore : Map → State → State → Type 0

@@ -4,7 +4,7 @@ use mathlib.Core.Bool.{cond}
 use mathlib.Core.List.{List}
 use lib.Dec.{eqb}
 use Rattle.grants.specs.Grant.{Reply, unequal}
-use Rattle.fpu.specs.Outcome.{invalidArgument}
+use Rattle.outcomes.specs.Outcome.{invalidArgument}
 
 pub record GrantOutcome : Type 0 where
   pub result : ℕ

@@ -17,12 +17,12 @@ use Rattle.watch.proofs.More as Run
 use Rattle.layout.specs.State.{Valid}
 use Rattle.layout.specs.Marks.{encodeMarks}
 use Rattle.layout.proofs.Bytes.{encoded-bytes}
-use Rattle.fpu.specs.Outcome.{decodedState}
-use Rattle.fpu.specs.WatchOutcome.{watchOutcome, reportedWatch, validWatch, decodedMap, watched}
-use Rattle.fpu.specs.More.{KnowsAll, countOf, NoLess, MoreKnown}
-use Rattle.fpu.proofs.ValidWatch.{valid-watch-state, valid-watch-marks}
-use Rattle.fpu.proofs.Numbered.{decoded-mark, encoded-mark, word-place, inside, one-inside}
-use Rattle.fpu.proofs.NonInterference.{sized, mapped, sizes-left, refused-reply}
+use Rattle.outcomes.specs.Outcome.{decodedState}
+use Rattle.outcomes.specs.WatchOutcome.{watchOutcome, reportedWatch, validWatch, decodedMap, watched}
+use Rattle.outcomes.specs.More.{KnowsAll, countOf, NoLess, MoreKnown}
+use Rattle.outcomes.proofs.ValidWatch.{valid-watch-state, valid-watch-marks}
+use Rattle.outcomes.proofs.Numbered.{decoded-mark, encoded-mark, word-place, inside, one-inside}
+use Rattle.outcomes.proofs.NonInterference.{sized, mapped, sizes-left, refused-reply}
 
 -- ---- from buffers to places, and back
 

@@ -10,7 +10,7 @@ use Rattle.limits.specs.Limit.{windowLimit}
 use Rattle.vfp.specs.Call.{loadStoreReply}
 use Rattle.layout.specs.State.{Valid}
 use Rattle.layout.proofs.Words.{encode-decode}
-use Rattle.fpu.specs.Outcome.{outcome, called, validCall}
+use Rattle.outcomes.specs.Outcome.{outcome, called, validCall}
 
 pub refused-as-it-came : (base w thumb : ℕ) (l v a : List ℕ) → Valid l → getD l 51 0 < 2 ^ 32 → validCall l thumb (length a) ≡ true → (windowLimit base (length v) ≡ 0 → ⊥)
     → called (loadStoreReply base w) l v thumb a ≡ outcome (100 + windowLimit base (length v)) l v (0 ∷ 0 ∷ 0 ∷ 0 ∷ [])

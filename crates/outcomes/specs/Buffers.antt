@@ -9,8 +9,8 @@ use Rattle.processing.specs.Data.{dataTree}
 use Rattle.transfers.specs.Transfer.{transferTree}
 use Rattle.vfp.specs.Call.{reply, loadStoreReply}
 use Rattle.run.specs.Run.{runReply}
-use Rattle.fpu.specs.Outcome.{Outcome, called, ran, renewed}
-use Rattle.fpu.specs.WatchOutcome.{WatchOutcome, validWatch, watched}
+use Rattle.outcomes.specs.Outcome.{Outcome, called, ran, renewed}
+use Rattle.outcomes.specs.WatchOutcome.{WatchOutcome, validWatch, watched}
 
 -- after a refusal, 100 and more, and after 255 the state and the window are word for word those that came
 abbrev pub Unchanged : List ℕ → List ℕ → Outcome → Type 0
