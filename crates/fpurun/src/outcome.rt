@@ -2,9 +2,9 @@
 use super::output::print;
 use libc::STDOUT_FILENO;
 use machine::place::WINDOW;
+use place_values::place::next_change;
+use place_values::place::next_unknown;
 use report::line;
-use report::place::next_change;
-use report::place::next_unknown;
 
 fn text(b: &[u8]) {
     io::write_all(STDOUT_FILENO, b);

@@ -1,4 +1,2 @@
--- Laws on a text that grows piece by piece, and on the first number that passes a test.
-
+-- Laws on a text that grows piece by piece.
 pub mod Chain
-pub mod Order

@@ -1,4 +1,3 @@
 -- What is told of a run that ended.
 pub mod Words
-pub mod Place
 pub mod Line

@@ -4,13 +4,13 @@ ghost use mathlib.Core.List.{_++_};
 ghost use Prim.Native.Nat.{_%_, _^_};
 ghost use Rattle.machine.specs.Place.{number, core};
 ghost use Rattle.text.specs.Text.{textOf, clip};
-ghost use Rattle.report.specs.Place.{markedAt, wordAt, knownAt, valueAt};
+ghost use Rattle.place_values.specs.Place.{markedAt, wordAt, knownAt, valueAt};
 ghost use Rattle.report.specs.Line.{namedText, wordText, lastText, r15Text, hungText, stopText, ranText, unknownText, valueText, changeText};
-use super::place::is_known;
-use super::place::marked;
-use super::place::value;
-use super::place::word;
 use machine::place::PC;
+use place_values::place::is_known;
+use place_values::place::marked;
+use place_values::place::value;
+use place_values::place::word;
 use text::text::Text;
 
 // A count as a number to print.

@@ -1,8 +1,8 @@
 -- `report::place::changed` meets its contract.
-use Rattle.report.specs.Place.{changedAt}
+use Rattle.place_values.specs.Place.{changedAt}
 use borrow.Author.Needs.{needs}
-use Rattle.report.proofs.place.changed.Statement.{statement}
-use Rattle.report.proofs.place.changed.Tie as tie
+use Rattle.place_values.proofs.place.changed.Statement.{statement}
+use Rattle.place_values.proofs.place.changed.Tie as tie
 
 is-known-requires : tie.Need-is-known-requires
 is-known-requires c κs = search needs

@@ -1,9 +1,9 @@
 -- `report::place::is_known` meets its contract.
-use Rattle.report.specs.Place.{knownAt}
+use Rattle.place_values.specs.Place.{knownAt}
 use borrow.Author.Tests.{lt-ltb, le-ltb}
 use borrow.Author.Needs.{needs}
-use Rattle.report.proofs.place.is_known.Statement.{statement}
-use Rattle.report.proofs.place.is_known.Tie as tie
+use Rattle.place_values.proofs.place.is_known.Statement.{statement}
+use Rattle.place_values.proofs.place.is_known.Tie as tie
 
 marked-requires : tie.Need-marked-requires
 marked-requires c κs = search needs

@@ -1,11 +1,11 @@
 -- `report::place::value` meets its contract.
-use Rattle.report.specs.Place.{valueAt}
+use Rattle.place_values.specs.Place.{valueAt}
 use borrow.Author.Tests.{eq-eqb, ne-eqb, lt-ltb, le-ltb}
 use mathlib.Core.Path.{ap}
 use Prim.Native.Nat.{ℕ, _/_, _^_}
 use borrow.Author.Needs.{needs}
-use Rattle.report.proofs.place.value.Statement.{statement}
-use Rattle.report.proofs.place.value.Tie as tie
+use Rattle.place_values.proofs.place.value.Statement.{statement}
+use Rattle.place_values.proofs.place.value.Tie as tie
 
 word-requires : tie.Need-word-requires
 word-requires c κs = search needs

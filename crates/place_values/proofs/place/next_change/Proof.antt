@@ -1,13 +1,13 @@
 -- `report::place::next_change` meets its contract.
-use Rattle.report.proofs.Order.{first-end, first-here, first-on}
-use Rattle.report.specs.Place.{changedAt, firstFrom, nextChange}
+use Rattle.place_values.proofs.Order.{first-end, first-here, first-on}
+use Rattle.place_values.specs.Place.{changedAt, firstFrom, nextChange}
 use denote.Ref.{now}
 use borrow.Author.Needs.{needs}
 use native.Mathlib.Omega.{arith}
 use mathlib.Core.Path.{_≡_, refl, sym, _∙_, ap}
 use Prim.Native.Nat.{_-_, _≤_}
-use Rattle.report.proofs.place.next_change.Statement.{statement}
-use Rattle.report.proofs.place.next_change.Tie as tie
+use Rattle.place_values.proofs.place.next_change.Statement.{statement}
+use Rattle.place_values.proofs.place.next_change.Tie as tie
 
 abbrev Inv-loop : tie.InvT-loop
 Inv-loop state marks window window-marks s m w v from end p₀ p = (from ≤ p) × (firstFrom (changedAt state marks window window-marks s m w v) (end - p) p ≡ nextChange state marks window window-marks s m w v from end)

@@ -1,14 +1,14 @@
 -- `report::place::next_unknown` meets its contract.
-use Rattle.report.proofs.Order.{first-end, first-here, first-on}
-use Rattle.report.specs.Place.{knownAt, firstFrom, nextUnknown}
+use Rattle.place_values.proofs.Order.{first-end, first-here, first-on}
+use Rattle.place_values.specs.Place.{knownAt, firstFrom, nextUnknown}
 use denote.Ref.{now}
 use mathlib.Core.Bool.{not}
 use borrow.Author.Needs.{needs}
 use native.Mathlib.Omega.{arith}
 use mathlib.Core.Path.{_≡_, refl, sym, _∙_, ap}
 use Prim.Native.Nat.{_-_, _≤_}
-use Rattle.report.proofs.place.next_unknown.Statement.{statement}
-use Rattle.report.proofs.place.next_unknown.Tie as tie
+use Rattle.place_values.proofs.place.next_unknown.Statement.{statement}
+use Rattle.place_values.proofs.place.next_unknown.Tie as tie
 
 abbrev Inv-loop : tie.InvT-loop
 Inv-loop marks window-marks from end p₀ p = (from ≤ p) × (firstFrom (λ x. not (knownAt marks window-marks x)) (end - p) p ≡ nextUnknown marks window-marks from end)

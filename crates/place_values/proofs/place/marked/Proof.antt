@@ -1,9 +1,9 @@
 -- `report::place::marked` meets its contract.
-use Rattle.report.specs.Place.{markedAt}
+use Rattle.place_values.specs.Place.{markedAt}
 use borrow.Author.Tests.{lt-ltb, le-ltb}
 use borrow.Author.Needs.{needs}
-use Rattle.report.proofs.place.marked.Statement.{statement}
-use Rattle.report.proofs.place.marked.Tie as tie
+use Rattle.place_values.proofs.place.marked.Statement.{statement}
+use Rattle.place_values.proofs.place.marked.Tie as tie
 
 shared-slice-read-result : tie.Need-shared-slice-read-result
 shared-slice-read-result c = search needs

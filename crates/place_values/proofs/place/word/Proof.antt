@@ -1,12 +1,12 @@
 -- `report::place::word` meets its contract.
 use denote.Ref.{now}
 -- `report::place::word` meets its contract.
-use Rattle.report.specs.Place.{wordAt}
+use Rattle.place_values.specs.Place.{wordAt}
 use lib.ListN.{List·getD-eq-default}
 use mathlib.Core.Path.{refl, sym}
 use borrow.Author.Needs.{needs}
-use Rattle.report.proofs.place.word.Statement.{statement}
-use Rattle.report.proofs.place.word.Tie as tie
+use Rattle.place_values.proofs.place.word.Statement.{statement}
+use Rattle.place_values.proofs.place.word.Tie as tie
 
 mul-result : tie.Need-mul-result
 mul-result c = search needs

@@ -4,7 +4,7 @@ use native.Mathlib.Omega.{arith}
 use native.Mathlib.Numerals.{add-one}
 use mathlib.Core.Path.{_≡_, refl, sym, _∙_, ap}
 use mathlib.Core.Bool.{Bool, true, false}
-use Rattle.report.specs.Place.{firstFrom}
+use Rattle.place_values.specs.Place.{firstFrom}
 
 module _ (f : ℕ → Bool) (p e : ℕ) where
   pub first-end : e ≤ p → p ≡ firstFrom f (e - p) p

@@ -1,12 +1,12 @@
 // The marks and values of places, by their numbers, in the words and marks of the state and of the window.
 ghost use mathlib.Core.Path.{_≡_};
 ghost use Prim.Native.Nat.{_≤_};
-ghost use Rattle.report.specs.Place.{markedAt, wordAt, knownAt, valueAt, differsOf, nextUnknown, changedAt, nextChange};
+ghost use Rattle.place_values.specs.Place.{markedAt, wordAt, knownAt, valueAt, differsOf, nextUnknown, changedAt, nextChange};
 use machine::place::FLAGS;
 use machine::place::NZCV;
 use machine::place::WINDOW;
 
-pub(crate) fn marked(marks: &[u8], i: usize) -> bool
+pub fn marked(marks: &[u8], i: usize) -> bool
     ensures { λ r. ⌜ r ≡ markedAt (now (marks .entry)) i ⌝ }
 {
     if i < marks.len() {
@@ -15,7 +15,7 @@ pub(crate) fn marked(marks: &[u8], i: usize) -> bool
     true
 }
 
-pub(crate) fn word(words: &[u32], i: usize) -> u32
+pub fn word(words: &[u32], i: usize) -> u32
     ensures { λ r. ⌜ r ≡ wordAt (now (words .entry)) i ⌝ }
 {
     if i < words.len() {
@@ -25,7 +25,7 @@ pub(crate) fn word(words: &[u32], i: usize) -> u32
 }
 
 // Whether a place is known.
-pub(crate) fn is_known(marks: &[u8], window_marks: &[u8], p: usize) -> bool
+pub fn is_known(marks: &[u8], window_marks: &[u8], p: usize) -> bool
     ensures { λ r. ⌜ r ≡ knownAt (now (marks .entry)) (now («window_marks» .entry)) p ⌝ }
 {
     if p < WINDOW {
@@ -35,7 +35,7 @@ pub(crate) fn is_known(marks: &[u8], window_marks: &[u8], p: usize) -> bool
 }
 
 // The bits that a place holds: those of places 48 and 51 stand in bits 31:28 of the state's word.
-pub(crate) fn value(state: &[u32], window: &[u32], p: usize) -> u32
+pub fn value(state: &[u32], window: &[u32], p: usize) -> u32
     ensures { λ r. ⌜ r ≡ valueAt (now (state .entry)) (now (window .entry)) p ⌝ }
 {
     if p == FLAGS {
@@ -51,7 +51,7 @@ pub(crate) fn value(state: &[u32], window: &[u32], p: usize) -> u32
 }
 
 // Whether a place's mark or its known value is another.
-pub(crate) fn differs(was: bool, old: u32, is: bool, new: u32) -> bool
+fn differs(was: bool, old: u32, is: bool, new: u32) -> bool
     ensures { λ r. ⌜ r ≡ differsOf was old is new ⌝ }
 {
     if was != is {

@@ -1,9 +1,9 @@
 -- `report::place::differs` meets its contract.
-use Rattle.report.specs.Place.{differsOf}
+use Rattle.place_values.specs.Place.{differsOf}
 use borrow.Author.Tests.{not-true, not-false}
 use mathlib.Core.Bool.{Bool·beq}
-use Rattle.report.proofs.place.differs.Statement.{statement}
-use Rattle.report.proofs.place.differs.Tie as tie
+use Rattle.place_values.proofs.place.differs.Statement.{statement}
+use Rattle.place_values.proofs.place.differs.Tie as tie
 
 returns : tie.Need-returns
 unfolding differsOf

@@ -1,0 +1,2 @@
+-- Laws on the first number that passes a test.
+pub mod Order

@@ -1,0 +1,2 @@
+-- What the buffers say of each place.
+pub mod Place
