@@ -5,8 +5,8 @@ use Rattle.machine.specs.Window.{wordAt}
 use Rattle.numbers.specs.Compare.{compareFlags}
 use Rattle.rounding.specs.Flush.{flush}
 use Rattle.rounding.specs.Rounding.{roundingOf, rounded}
-use Rattle.numbers.specs.Convert.{narrowed, narrow}
-use Rattle.numbers.specs.Integer.{integerOf, toInteger}
+use Rattle.widths.specs.Convert.{narrowed, narrow}
+use Rattle.integers.specs.Integer.{integerOf, toInteger}
 use Rattle.meaning.specs.Step.{after}
 use Rattle.meaning.specs.Tree.{plain}
 use Rattle.memory.specs.LoadStore.{accessTree, loadStoreTree}

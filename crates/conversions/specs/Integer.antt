@@ -5,7 +5,7 @@ use mathlib.Core.List.{[], _∷_}
 use lib.Ieee.{Format}
 use Rattle.machine.specs.Place.{control, sWord}
 use Rattle.rounding.specs.declared.rounding.Rounding.the-variants.{Zero}
-use Rattle.numbers.specs.Integer.{fromInteger, toInteger}
+use Rattle.integers.specs.Integer.{fromInteger, toInteger}
 use Rattle.rounding.specs.Rounding.{roundingOf}
 use Rattle.meaning.specs.Step.{Step, fst, rest}
 use Rattle.short_vectors.specs.Register.{wordsOf, valuesOf, written}

@@ -3,7 +3,7 @@ use Prim.Native.Nat.{ℕ}
 use mathlib.Core.List.{[], _∷_}
 use lib.Ieee.{binary32, binary64}
 use Rattle.machine.specs.Place.{control, sWord}
-use Rattle.numbers.specs.Convert.{narrow, widen}
+use Rattle.widths.specs.Convert.{narrow, widen}
 use Rattle.meaning.specs.Step.{Step, fst, rest}
 use Rattle.short_vectors.specs.Register.{wordsOf, valuesOf, written}
 

@@ -2,16 +2,16 @@
 ghost use lib.Ieee.{binary32, binary64};
 ghost use Rattle.short_vectors.specs.Register.{Stepped, SteppedWith};
 ghost use Rattle.conversions.specs.Integer.{fromStep, truncateStep, roundStep};
+use integers::integer::from_integer32;
+use integers::integer::from_integer64;
+use integers::integer::to_integer32;
+use integers::integer::to_integer64;
 use machine::registers::Double;
 use machine::registers::Single;
 use machine::registers::get_double;
 use machine::registers::get_single;
 use machine::registers::set_double;
 use machine::registers::set_single;
-use numbers::integer::from_integer32;
-use numbers::integer::from_integer64;
-use numbers::integer::to_integer32;
-use numbers::integer::to_integer64;
 use rounding::rounding::Rounding;
 use rounding::rounding::rounding_of;
 

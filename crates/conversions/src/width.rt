@@ -7,8 +7,8 @@ use machine::registers::get_double;
 use machine::registers::get_single;
 use machine::registers::set_double;
 use machine::registers::set_single;
-use numbers::convert::narrow;
-use numbers::convert::widen;
+use widths::convert::narrow;
+use widths::convert::widen;
 
 pub fn widen_single(s: &mut [u32; 32], d: Double, m: Single)
     ensures { λ _. ⌜ Stepped (widenStep (d .0) (m .0)) (now (s .entry)) (now (s .exit)) ⌝ }

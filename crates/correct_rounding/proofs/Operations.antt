@@ -21,15 +21,15 @@ use Rattle.correct_rounding.proofs.Rounded.{rounded-correct}
 use Rattle.rounding.proofs.Flushing.{flush-off}
 use Rattle.rounding.proofs.Written.{rounded-nearest}
 use Rattle.numbers.specs.Arithmetic.{apply, accumulates, defaultNan, applied}
-use Rattle.numbers.specs.Convert.{narrowed, narrow}
-use Rattle.numbers.specs.Integer.{integerValue, fromInteger}
+use Rattle.widths.specs.Convert.{narrowed, narrow}
+use Rattle.integers.specs.Integer.{integerValue, fromInteger}
 use Rattle.correct_rounding.specs.Operations.{sumSize, sumSign, negative, magnitude, Correct}
 use Rattle.numbers.specs.declared.arithmetic.Arithmetic.{Arithmetic}
 use Rattle.numbers.specs.declared.arithmetic.Arithmetic.the-variants.{MultiplyAccumulate, MultiplySubtract, NegateMultiplySubtract, NegateMultiplyAccumulate, Multiply, NegateMultiply, Add, Subtract, Divide}
 use Rattle.numbers.proofs.Applying.{kept, word-of-value}
-use Rattle.numbers.proofs.Narrow.{narrowed-value}
-use Rattle.numbers.proofs.Sight.{to-integer-names}
-use Rattle.numbers.proofs.Whole.{widened-value}
+use Rattle.widths.proofs.Narrow.{narrowed-value}
+use Rattle.integers.proofs.Sight.{to-integer-names}
+use Rattle.integers.proofs.Whole.{widened-value}
 
 -- what equals `round` of a fraction
 correct : (f : Format) (s : Bool) (num den : ℕ) (v : Float) → 0 < den → v ≡ round f s num den → CorrectlyRounded Nearest f s (ratio num den) (toBits f v)

@@ -10,8 +10,8 @@ use Rattle.correct_rounding.specs.Rounded.{ratio, CorrectlyRounded}
 use Rattle.rounding.specs.declared.rounding.Rounding.{Rounding}
 use Rattle.rounding.specs.declared.rounding.Rounding.the-variants.{Nearest}
 use Rattle.numbers.specs.Arithmetic.{apply, applied, arithmetic}
-use Rattle.numbers.specs.Convert.{narrowed, narrow, widen}
-use Rattle.numbers.specs.Integer.{fromInteger, clamped, toInteger}
+use Rattle.widths.specs.Convert.{narrowed, narrow, widen}
+use Rattle.integers.specs.Integer.{fromInteger, clamped, toInteger}
 use Rattle.numbers.specs.declared.arithmetic.Arithmetic.{Arithmetic}
 
 -- ±a + ±b: its size, and its sign, where an exact zero is negative only if both are

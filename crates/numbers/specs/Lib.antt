@@ -1,5 +1,3 @@
 -- The crate's definitions: what each operation means on words, over the format. Assumes nothing.
 pub mod Arithmetic
 pub mod Compare
-pub mod Convert
-pub mod Integer

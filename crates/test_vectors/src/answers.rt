@@ -1,18 +1,18 @@
 // The functions of `numbers` by number, on words of up to 64 bits.
+use integers::integer::from_integer32;
+use integers::integer::from_integer64;
+use integers::integer::to_integer32;
+use integers::integer::to_integer64;
 use numbers::arithmetic::Arithmetic;
 use numbers::arithmetic::arithmetic32;
 use numbers::arithmetic::arithmetic64;
 use numbers::compare::compare32;
 use numbers::compare::compare64;
-use numbers::convert::narrow;
-use numbers::convert::widen;
-use numbers::integer::from_integer32;
-use numbers::integer::from_integer64;
-use numbers::integer::to_integer32;
-use numbers::integer::to_integer64;
 use roots::root::square_root32;
 use roots::root::square_root64;
 use rounding::rounding::rounding_of;
+use widths::convert::narrow;
+use widths::convert::widen;
 
 // A line's work: the operation's number, the control word, the operands and the old d.
 pub struct Work {

@@ -1,0 +1,24 @@
+-- Values that the definitions are held against, each computed. Assumes nothing.
+use mathlib.Core.Path.{_≡_, refl}
+use mathlib.Core.Bool.{true, false}
+use lib.Ieee.{binary32, binary64, ofBits, toBits, odd}
+use Rattle.rounding.specs.Flush.{flush}
+use Rattle.rounding.specs.Rounding.{roundingOf, rounded}
+use Rattle.integers.specs.Integer.{fromInteger, integerOf, toInteger}
+
+-- To signed in mode 00: 2.5, -0.5, -1.5, of doubles and of singles. -0.5 in mode 10, signed and unsigned.
+pub values : (toInteger binary64 (roundingOf 0) true 0x4004_0000_0000_0000 ≡ 2)
+    × (toInteger binary64 (roundingOf 0) true 0xBFE0_0000_0000_0000 ≡ 0)
+    × (toInteger binary64 (roundingOf 0) true 0xBFF8_0000_0000_0000 ≡ 0xFFFF_FFFE)
+    × (toInteger binary32 (roundingOf 0) true 0x4020_0000 ≡ 2)
+    × (toInteger binary32 (roundingOf 0) true 0xBF00_0000 ≡ 0)
+    × (toInteger binary32 (roundingOf 0) true 0xBFC0_0000 ≡ 0xFFFF_FFFE)
+    × (toInteger binary64 (roundingOf 0x80_0000) true 0xBFE0_0000_0000_0000 ≡ 0xFFFF_FFFF)
+    × (toInteger binary64 (roundingOf 0x80_0000) false 0xBFE0_0000_0000_0000 ≡ 0)
+unfolding toInteger integerOf roundingOf rounded ofBits toBits
+values = (refl, refl, refl, refl, refl, refl, refl, refl)
+
+-- the largest unsigned integer
+pub integer-value : fromInteger binary32 false 0xFFFF_FFFF ≡ 0x4F80_0000
+unfolding fromInteger rounded flush ofBits toBits odd
+integer-value = refl

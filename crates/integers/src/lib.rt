@@ -1,0 +1,2 @@
+// Conversions of register words from and to integers.
+pub mod integer;

@@ -1,0 +1,2 @@
+-- What a conversion between the widths means on words. Assumes nothing.
+pub mod Convert
