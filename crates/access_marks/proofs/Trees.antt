@@ -12,7 +12,9 @@ use Rattle.meaning.specs.Map.{Map}
 use Rattle.meaning.specs.Step.{stepMarks, afterMarks, grow}
 use Rattle.meaning.specs.Hang.{marked}
 use Rattle.meaning.proofs.Laws.{grow-marks, marked-ask, marked-once, marked-then}
-use Rattle.memory.specs.LoadStore.{pairStep, countOf, startOf, accessAt, accessTree}
+use Rattle.addresses.specs.Address.{countOf, startOf}
+use Rattle.pairs.specs.Pair.{pairStep}
+use Rattle.memory.specs.LoadStore.{accessAt, accessTree}
 
 -- a write-back changes no mark
 back : (b : Bool) (n k : ℕ) (μ : Map) → stepMarks (cond b (grow (core n) k ∷ []) []) μ ≡ μ

@@ -15,13 +15,14 @@ ghost use Rattle.meaning.specs.declared.Known.{Known};
 ghost use Rattle.meaning.specs.Map.{mapFrom};
 ghost use Rattle.meaning.specs.Step.{afterMarks};
 ghost use Rattle.meaning.specs.Hang.{marked};
-ghost use Rattle.memory.specs.LoadStore.{formatOf, countOf, accessAt, accessTree, loadStoreTree};
+ghost use Rattle.addresses.specs.Address.{formatOf, countOf};
+ghost use Rattle.memory.specs.LoadStore.{accessAt, accessTree, loadStoreTree};
+use addresses::address::count_of;
+use addresses::address::start_of;
+use addresses::halves::low_word;
 use bits::field::bits;
 use machine::registers::dreg;
 use machine::registers::sreg;
-use memory::address::count_of;
-use memory::address::start_of;
-use memory::halves::low_word;
 
 // The base register's value says which window words move. A write-back changes no mark.
 pub fn mark_load_store(

@@ -7,14 +7,15 @@ ghost use Rattle.machine.specs.Place.{sWord};
 ghost use Rattle.meaning.specs.declared.Known.{Known};
 ghost use Rattle.meaning.specs.Map.{mapFrom};
 ghost use Rattle.meaning.specs.Step.{stepMarks};
-ghost use Rattle.memory.specs.LoadStore.{formatOf, pairOf, pairStep};
+ghost use Rattle.addresses.specs.Address.{formatOf};
+ghost use Rattle.pairs.specs.Pair.{pairOf, pairStep};
+use addresses::halves::high_word;
+use addresses::halves::low_word;
 use bits::field::bit;
 use bits::field::bits;
 use machine::registers::Single;
 use machine::registers::dreg;
 use machine::registers::sreg;
-use memory::halves::high_word;
-use memory::halves::low_word;
 use place_marks::places::mark_single;
 use place_marks::places::single_known;
 

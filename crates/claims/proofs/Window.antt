@@ -19,7 +19,8 @@ use Rattle.meaning.specs.Step.{step, after, stepMarks}
 use Rattle.meaning.specs.Stop.{finished, refused, report}
 use Rattle.meaning.specs.Tree.{Tree, Out, out, on, go, exitOf, plain}
 use Rattle.meaning.proofs.Laws.{plain-go}
-use Rattle.memory.specs.LoadStore.{bytes, accessStep, accessAt, accessAct, accessTree, loadStoreTree, startOf, countOf, writeBack}
+use Rattle.addresses.specs.Address.{startOf, countOf, writeBack}
+use Rattle.memory.specs.LoadStore.{bytes, accessStep, accessAt, accessAct, accessTree, loadStoreTree}
 use Rattle.limits.specs.Limit.{mostWords, windowLimit}
 use Rattle.vfp.specs.Call.{reply, loadStoreReply}
 use Rattle.claims.specs.Window.{coprocessor, above, accessed, transferred, knownAt, accessedMarks, Window}

@@ -15,7 +15,8 @@ use Rattle.machine.specs.Place.{State, state, core, word, sWord, lowWord, highW
 use Rattle.meaning.specs.Map.{Map, mapOf, known, mark}
 use Rattle.meaning.specs.Step.{step, stepMarks}
 use Rattle.meaning.specs.Stop.{finished, report}
-use Rattle.memory.specs.LoadStore.{bytes, accessStep, startOf, countOf, writeBack}
+use Rattle.addresses.specs.Address.{startOf, countOf, writeBack}
+use Rattle.memory.specs.LoadStore.{bytes, accessStep}
 use Rattle.limits.specs.Limit.{windowLimit}
 use Rattle.vfp.specs.Call.{loadStoreReply}
 

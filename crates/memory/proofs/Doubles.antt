@@ -11,13 +11,6 @@ use Rattle.meaning.specs.Step.{Step, step, after}
 use Rattle.meaning.proofs.Laws.{after-one}
 use Rattle.memory.specs.LoadStore.{accessStep, accessAt}
 
--- a word's index is within the singles
-pub low-single : (d : ℕ) → singleIndex (lowIndex d) ≡ lowIndex d
-low-single d = omega arith
-
-pub high-single : (d : ℕ) → singleIndex (highIndex d) ≡ highIndex d
-high-single d = omega arith
-
 module _ (load : Bool) (base d a : ℕ) where
   -- the step of a double is that of its two words
   pub halves : (i : ℕ) → accessAt binary64 load base d a i

@@ -13,7 +13,9 @@ use Rattle.meaning.specs.Step.{step, after, nothing}
 use Rattle.meaning.specs.Tree.{go, on, out, plain}
 use Rattle.meaning.proofs.Laws.{plain-ask, plain-once, plain-then}
 use mathlib.Core.Bool.{true≢false}
-use Rattle.memory.specs.LoadStore.{formatOf, pairStep, countOf, startOf, accessAt, writeBack, accessTree, loadStoreTree}
+use Rattle.addresses.specs.Address.{formatOf, countOf, startOf, writeBack}
+use Rattle.pairs.specs.Pair.{pairStep}
+use Rattle.memory.specs.LoadStore.{accessAt, accessTree, loadStoreTree}
 
 module _ (f : Format) (base w : ℕ) (st : State) where
   pub paired : (x : State) → field w 21 27 ≡ 0b110_0010 → x ≡ step (pairStep f w) st → out x on ≡ plain (accessTree f base w) st

@@ -1,7 +1,4 @@
 // Loads and stores (vfp.rs `coprocessor_load_store`, LDC and STC on coprocessors 10 and 11), over lent registers and a lent window.
-pub mod address;
-pub mod halves;
-pub mod pair;
 pub mod words;
 
 ghost use mathlib.Core.Path.{_≡_};
@@ -12,10 +9,14 @@ ghost use Rattle.machine.specs.Place.{state};
 ghost use Rattle.bits.specs.Field.{field, bitOf};
 ghost use Rattle.meaning.specs.Step.{after};
 ghost use Rattle.meaning.specs.Tree.{out, plain, on};
-ghost use Rattle.memory.specs.LoadStore.{formatOf, countOf, accessAt, accessTree, loadStoreTree};
+ghost use Rattle.addresses.specs.Address.{formatOf, countOf};
+ghost use Rattle.memory.specs.LoadStore.{accessAt, accessTree, loadStoreTree};
+use addresses::address;
+use addresses::halves;
 use bits::field::bits;
 use machine::registers::dreg;
 use machine::registers::sreg;
+use pairs::pair;
 
 pub fn coprocessor_load_store(
     s: &mut [u32; 32],

@@ -5,7 +5,7 @@ use denote.Ref.{now}
 use borrow.Author.Needs.{needs}
 use Rattle.access_marks.proofs.Doubles.{doubles}
 use Rattle.machine.specs.Registers.{dregOf}
-use Rattle.memory.specs.LoadStore.{countOf}
+use Rattle.addresses.specs.Address.{countOf}
 use Rattle.meaning.specs.Map.{mapFrom}
 use Rattle.bits.specs.Field.{field, bitOf}
 use Rattle.access_marks.proofs.mark_transfer.Statement.{statement}

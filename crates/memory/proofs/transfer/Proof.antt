@@ -7,7 +7,7 @@ use Rattle.machine.specs.Place.{state}
 use Rattle.machine.specs.Machine.{withS}
 use Rattle.machine.specs.Registers.{dregOf}
 use Rattle.bits.specs.Field.{field, bitOf}
-use Rattle.memory.specs.LoadStore.{countOf}
+use Rattle.addresses.specs.Address.{countOf}
 use Rattle.memory.proofs.Doubles.{doubles}
 use Rattle.memory.proofs.transfer.Statement.{statement}
 use Rattle.memory.proofs.transfer.Tie as tie

@@ -1,6 +1,6 @@
 -- `access_marks::pair::mark_pair` meets its contract.
 use borrow.Author.Needs.{needs}
-use Rattle.memory.proofs.Doubles.{low-single, high-single}
+use Rattle.addresses.proofs.Singles.{low-single, high-single}
 use Rattle.access_marks.proofs.pair.mark_pair.Statement.{statement}
 use Rattle.access_marks.proofs.pair.mark_pair.Tie as tie
 

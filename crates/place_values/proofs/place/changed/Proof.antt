@@ -1,4 +1,4 @@
--- `report::place::changed` meets its contract.
+-- `place_values::place::changed` meets its contract.
 use Rattle.place_values.specs.Place.{changedAt}
 use borrow.Author.Needs.{needs}
 use Rattle.place_values.proofs.place.changed.Statement.{statement}

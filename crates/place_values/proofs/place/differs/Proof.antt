@@ -1,4 +1,4 @@
--- `report::place::differs` meets its contract.
+-- `place_values::place::differs` meets its contract.
 use Rattle.place_values.specs.Place.{differsOf}
 use borrow.Author.Tests.{not-true, not-false}
 use mathlib.Core.Bool.{Bool·beq}

@@ -1,4 +1,4 @@
--- `report::place::is_known` meets its contract.
+-- `place_values::place::is_known` meets its contract.
 use Rattle.place_values.specs.Place.{knownAt}
 use borrow.Author.Tests.{lt-ltb, le-ltb}
 use borrow.Author.Needs.{needs}

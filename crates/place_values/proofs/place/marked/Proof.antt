@@ -1,4 +1,4 @@
--- `report::place::marked` meets its contract.
+-- `place_values::place::marked` meets its contract.
 use Rattle.place_values.specs.Place.{markedAt}
 use borrow.Author.Tests.{lt-ltb, le-ltb}
 use borrow.Author.Needs.{needs}

@@ -1,4 +1,4 @@
--- `report::place::next_change` meets its contract.
+-- `place_values::place::next_change` meets its contract.
 use Rattle.place_values.proofs.Order.{first-end, first-here, first-on}
 use Rattle.place_values.specs.Place.{changedAt, firstFrom, nextChange}
 use denote.Ref.{now}

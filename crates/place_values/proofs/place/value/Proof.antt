@@ -1,4 +1,4 @@
--- `report::place::value` meets its contract.
+-- `place_values::place::value` meets its contract.
 use Rattle.place_values.specs.Place.{valueAt}
 use borrow.Author.Tests.{eq-eqb, ne-eqb, lt-ltb, le-ltb}
 use mathlib.Core.Path.{ap}

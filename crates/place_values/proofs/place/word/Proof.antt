@@ -1,6 +1,6 @@
--- `report::place::word` meets its contract.
+-- `place_values::place::word` meets its contract.
 use denote.Ref.{now}
--- `report::place::word` meets its contract.
+-- `place_values::place::word` meets its contract.
 use Rattle.place_values.specs.Place.{wordAt}
 use lib.ListN.{List·getD-eq-default}
 use mathlib.Core.Path.{refl, sym}

@@ -1,9 +1,9 @@
--- `memory::address::count_of` meets its contract.
+-- `addresses::address::count_of` meets its contract.
 use native.Mathlib.Omega.{arith}
 use mathlib.Core.Path.{sym, _∙_}
 use borrow.Author.Needs.{needs}
-use Rattle.memory.proofs.address.count_of.Statement.{statement}
-use Rattle.memory.proofs.address.count_of.Tie as tie
+use Rattle.addresses.proofs.address.count_of.Statement.{statement}
+use Rattle.addresses.proofs.address.count_of.Tie as tie
 
 one-only-requires : tie.Need-one-only-requires
 one-only-requires c κs = search needs

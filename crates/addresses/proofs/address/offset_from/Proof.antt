@@ -1,8 +1,8 @@
--- `memory::address::offset_from` meets its contract.
+-- `addresses::address::offset_from` meets its contract.
 use mathlib.Core.Path.{sym, _∙_}
 use borrow.Author.Needs.{needs}
-use Rattle.memory.proofs.address.offset_from.Statement.{statement}
-use Rattle.memory.proofs.address.offset_from.Tie as tie
+use Rattle.addresses.proofs.address.offset_from.Statement.{statement}
+use Rattle.addresses.proofs.address.offset_from.Tie as tie
 
 bit-requires : tie.Need-bit-requires
 bit-requires c κs = search needs

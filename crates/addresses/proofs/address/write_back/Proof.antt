@@ -1,8 +1,8 @@
--- `memory::address::write_back` meets its contract.
+-- `addresses::address::write_back` meets its contract.
 use mathlib.Core.Path.{sym, _∙_}
 use borrow.Author.Needs.{needs}
-use Rattle.memory.proofs.address.write_back.Statement.{statement}
-use Rattle.memory.proofs.address.write_back.Tie as tie
+use Rattle.addresses.proofs.address.write_back.Statement.{statement}
+use Rattle.addresses.proofs.address.write_back.Tie as tie
 
 bit-requires : tie.Need-bit-requires
 bit-requires c κs = search needs

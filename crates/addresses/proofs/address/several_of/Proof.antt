@@ -1,8 +1,8 @@
--- `memory::address::several_of` meets its contract.
+-- `addresses::address::several_of` meets its contract.
 use native.Mathlib.Omega.{arith}
 use mathlib.Core.Path.{refl}
-use Rattle.memory.proofs.address.several_of.Statement.{statement}
-use Rattle.memory.proofs.address.several_of.Tie as tie
+use Rattle.addresses.proofs.address.several_of.Statement.{statement}
+use Rattle.addresses.proofs.address.several_of.Tie as tie
 
 returns : tie.Need-returns
 returns c = rw (c .if1 .taken) (refl, omega arith)

@@ -1,8 +1,8 @@
--- `memory::pair::move_both` meets its contract.
+-- `pairs::pair::move_both` meets its contract.
 use mathlib.Core.Path.{sym, _∙_}
 use borrow.Author.Needs.{needs}
-use Rattle.memory.proofs.pair.move_both.Statement.{statement}
-use Rattle.memory.proofs.pair.move_both.Tie as tie
+use Rattle.pairs.proofs.pair.move_both.Statement.{statement}
+use Rattle.pairs.proofs.pair.move_both.Tie as tie
 
 bits-requires : tie.Need-bits-requires
 bits-requires c κs = search needs

@@ -8,7 +8,7 @@ ghost use Rattle.machine.specs.declared.Machine.{Machine};
 ghost use Rattle.machine.specs.Machine.{withR};
 ghost use Rattle.machine.specs.Place.{state};
 ghost use Rattle.meaning.specs.Step.{step};
-ghost use Rattle.memory.specs.LoadStore.{formatOf, offset, oneOnly, several, countOf, startOf, writeBack};
+ghost use Rattle.addresses.specs.Address.{formatOf, offset, oneOnly, several, countOf, startOf, writeBack};
 use bits::field::bit;
 use bits::field::bits;
 use machine::address::minus;

@@ -1,12 +1,12 @@
--- `memory::address::start_of` meets its contract.
+-- `addresses::address::start_of` meets its contract.
 use Prim.Native.Nat.{_-_, _^_}
 use mathlib.Core.Path.{_∙_}
 use borrow.Author.Needs.{needs}
-use Rattle.memory.proofs.Start.{at-base, at-offset}
+use Rattle.addresses.proofs.Start.{at-base, at-offset}
 use Rattle.bits.specs.Field.{bitOf}
-use Rattle.memory.specs.LoadStore.{offset, oneOnly}
-use Rattle.memory.proofs.address.start_of.Statement.{statement}
-use Rattle.memory.proofs.address.start_of.Tie as tie
+use Rattle.addresses.specs.Address.{offset, oneOnly}
+use Rattle.addresses.proofs.address.start_of.Statement.{statement}
+use Rattle.addresses.proofs.address.start_of.Tie as tie
 
 bit-requires : tie.Need-bit-requires
 bit-requires c κs = search needs

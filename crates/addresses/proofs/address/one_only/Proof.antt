@@ -1,7 +1,7 @@
--- `memory::address::one_only` meets its contract.
+-- `addresses::address::one_only` meets its contract.
 use borrow.Author.Needs.{needs}
-use Rattle.memory.proofs.address.one_only.Statement.{statement}
-use Rattle.memory.proofs.address.one_only.Tie as tie
+use Rattle.addresses.proofs.address.one_only.Statement.{statement}
+use Rattle.addresses.proofs.address.one_only.Tie as tie
 
 bit-requires : tie.Need-bit-requires
 bit-requires c κs = search needs

@@ -1,9 +1,8 @@
--- `memory::pair::move_pair` meets its contract.
-use Rattle.memory.proofs.Doubles.{low-single, high-single}
--- `memory::pair::move_pair` meets its contract.
+-- `pairs::pair::move_pair` meets its contract.
+use Rattle.addresses.proofs.Singles.{low-single, high-single}
 use borrow.Author.Needs.{needs}
-use Rattle.memory.proofs.pair.move_pair.Statement.{statement}
-use Rattle.memory.proofs.pair.move_pair.Tie as tie
+use Rattle.pairs.proofs.pair.move_pair.Statement.{statement}
+use Rattle.pairs.proofs.pair.move_pair.Tie as tie
 
 bits-requires : tie.Need-bits-requires
 bits-requires c κs = search needs

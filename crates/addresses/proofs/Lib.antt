@@ -1,0 +1,3 @@
+-- Laws on the first address, and on the words of a double.
+pub mod Start
+pub mod Singles
