@@ -8,12 +8,13 @@ use mathlib.Core.Logic.{⊎-elim}
 use lib.Dec.{eqb, leb, ltb}
 use lib.ListN.{length, getD, replicate, getD-replicate, length-replicate, List·getD-eq-default}
 use borrow.Author.Tests.{ltb-false, leb-true, eq-eqb, ne-eqb}
-use Rattle.grants.specs.Round.{sum, most, rounds}
+use Rattle.phases.specs.Round.{sum, most, rounds}
 use Rattle.grants.specs.Refusal.{within, refusalOf}
-use Rattle.grants.specs.Grant.{Reply, reply, shared, grantsOf, granted, answered, equalLengths, unequal}
+use Rattle.phases.specs.Share.{shared}
+use Rattle.grants.specs.Grant.{Reply, reply, grantsOf, granted, answered, equalLengths, unequal}
 use Rattle.grants.specs.Promise.{Bounds, Promise}
-use Rattle.grants.proofs.Turns.{below-or-not, length-rounds, sum-rounds, rounds-bounded, settled}
-use Rattle.grants.proofs.Loops.{getD-shared, length-shared}
+use Rattle.phases.proofs.Turns.{below-or-not, length-rounds, sum-rounds, rounds-bounded, settled}
+use Rattle.phases.proofs.Loops.{getD-shared, length-shared}
 
 differ : true ≡ false → ⊥
 differ e = let z : _≡_ {A = ℕ} 0 1 = cc in omega arith

@@ -1,5 +1,3 @@
 -- The laws of the grants.
-pub mod Turns
-pub mod Phases
 pub mod Loops
 pub mod Answers

@@ -1,19 +1,14 @@
 -- What routines are granted of a period.
-use Prim.Native.Nat.{ℕ, min}
+use Prim.Native.Nat.{ℕ}
 use mathlib.Core.Bool.{Bool, cond, _&&_}
-use mathlib.Core.List.{List, [], _∷_}
+use mathlib.Core.List.{List}
 use lib.Dec.{eqb}
 use lib.ListN.{length, replicate}
-use Rattle.grants.specs.Round.{most, rounds}
+use Rattle.phases.specs.Share.{shared}
+use Rattle.phases.specs.Round.{most, rounds}
 use Rattle.grants.specs.Refusal.{refusalOf}
 
--- first the smaller of each share and its words left
-unfoldable pub shared : List ℕ → List ℕ → List ℕ
-shared [] left = []
-shared (s ∷ shares) [] = []
-shared (s ∷ shares) (l ∷ left) = min s l ∷ shared shares left
-
--- then what remains, round by round: a round in which nobody gets a word changes nothing, so as many rounds as the period has words are enough
+-- the shares first, then what remains, round by round: a round in which nobody gets a word changes nothing, so as many rounds as the period has words are enough
 unfoldable pub grantsOf : ℕ → List ℕ → List ℕ → List ℕ → List ℕ
 grantsOf period shares limits left = rounds period (most limits left) period (shared shares left)
 

@@ -4,7 +4,7 @@ use mathlib.Core.Path.{_≡_}
 use mathlib.Core.Bool.{true}
 use mathlib.Core.List.{List}
 use lib.ListN.{length, getD, replicate}
-use Rattle.grants.specs.Round.{sum, most}
+use Rattle.phases.specs.Round.{sum, most}
 use Rattle.grants.specs.Grant.{Reply, answered, equalLengths}
 
 -- the grants of lists of one length

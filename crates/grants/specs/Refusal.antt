@@ -4,7 +4,7 @@ use mathlib.Core.Bool.{Bool, true, cond, _&&_, _||_}
 use mathlib.Core.List.{List, [], _∷_}
 use lib.Dec.{eqb, leb, ltb}
 use lib.ListN.{length}
-use Rattle.grants.specs.Round.{sum}
+use Rattle.phases.specs.Round.{sum}
 
 -- no share is above its limit
 unfoldable pub within : List ℕ → List ℕ → Bool

@@ -1,11 +1,10 @@
 // What each routine is granted of a period's words.
-mod phase;
 mod refusal;
 
 ghost use Rattle.grants.specs.Grant.{reply};
 ghost use Rattle.grants.specs.Promise.{Promise};
-use phase::deal;
-use phase::share_out;
+use phases::phase::deal;
+use phases::phase::share_out;
 use refusal::clear;
 use refusal::refusal;
 use refusal::total;

@@ -2,7 +2,7 @@
 ghost use Prim.Native.Nat.{_≤_, _<_, _^_};
 ghost use mathlib.Core.Path.{_≡_};
 ghost use lib.ListN.{length, replicate};
-ghost use Rattle.grants.specs.Round.{sum};
+ghost use Rattle.phases.specs.Round.{sum};
 ghost use Rattle.grants.specs.Refusal.{within, refusalOf};
 
 pub(crate) fn wide(x: u32) -> u64

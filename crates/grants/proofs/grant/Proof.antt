@@ -1,6 +1,6 @@
 -- `grants::grant` meets its contract.
 use Rattle.grants.proofs.Answers.{accepted, first-within, other-shares, other-limits, other-left, turned-away, dealt, dealt-is}
-use Rattle.grants.specs.Round.{sum}
+use Rattle.phases.specs.Round.{sum}
 use denote.Ref.{now}
 use mathlib.Core.Path.{_≡_, sym, _∙_, ap}
 use lib.ListN.{length}

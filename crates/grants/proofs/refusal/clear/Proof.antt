@@ -1,5 +1,5 @@
 -- `grants::refusal::clear` meets its contract.
-use Rattle.grants.proofs.Loops.{written, all-written}
+use Rattle.phases.proofs.Loops.{written, all-written}
 use denote.Ref.{now}
 use mathlib.Core.Path.{_≡_, refl, sym}
 use Prim.Native.Nat.{ℕ, _≤_, _-_}

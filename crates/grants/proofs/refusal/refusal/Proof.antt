@@ -2,7 +2,7 @@
 use borrow.Author.Tests.{eq-eqb, ne-eqb, lt-ltb, le-ltb, not-true, not-false}
 -- `grants::refusal::refusal` meets its contract.
 use Rattle.grants.specs.Refusal.{refusalOf}
-use Rattle.grants.specs.Round.{sum}
+use Rattle.phases.specs.Round.{sum}
 use denote.Ref.{now}
 use mathlib.Core.Path.{sym, _∙_}
 use native.Mathlib.Omega.{arith}

@@ -1,6 +1,6 @@
 -- `grants::refusal::total` meets its contract.
 use Rattle.grants.proofs.Loops.{sum-on, sum-end}
-use Rattle.grants.specs.Round.{sum}
+use Rattle.phases.specs.Round.{sum}
 use denote.Ref.{now}
 use mathlib.Core.Path.{_≡_}
 use Prim.Native.Nat.{_+_, _*_, _^_, _≤_, _-_}

@@ -1,15 +1,15 @@
--- `grants::phase::least` meets its contract.
-use Rattle.grants.proofs.Loops.{least-one}
-use Rattle.grants.specs.Phase.{leastRoom}
-use Rattle.grants.specs.Round.{most}
+-- `phases::phase::least` meets its contract.
+use Rattle.phases.proofs.Loops.{least-one}
+use Rattle.phases.specs.Phase.{leastRoom}
+use Rattle.phases.specs.Round.{most}
 use denote.Ref.{now}
 use mathlib.Core.Path.{_≡_, refl}
 use Prim.Native.Nat.{_≤_, _-_}
 use lib.ListN.{length}
 use borrow.Author.Needs.{needs}
 use native.Mathlib.Omega.{arith}
-use Rattle.grants.proofs.phase.least.Statement.{statement}
-use Rattle.grants.proofs.phase.least.Tie as tie
+use Rattle.phases.proofs.phase.least.Statement.{statement}
+use Rattle.phases.proofs.phase.least.Tie as tie
 
 abbrev Inv-loop : tie.InvT-loop
 Inv-loop limits left grants words₀ i₀ words i = (i ≤ length grants) × (words ≡ leastRoom (most limits left) i grants)

@@ -10,8 +10,8 @@ use lib.Dec.{eqb, ltb}
 use lib.ListN.{length, getD, set, length-set}
 use lib.Seq.{getD-set-same, getD-set-other, set-getD}
 use borrow.Author.Tests.{ltb-true, ltb-false, lt-ltb, le-ltb, eqb-true, eqb-false}
-use Rattle.grants.specs.Round.{sum, turn, turns, rounds}
-use Rattle.grants.specs.Phase.{extra, roomy}
+use Rattle.phases.specs.Round.{sum, turn, turns, rounds}
+use Rattle.phases.specs.Phase.{extra, roomy}
 
 -- below, or not
 pub below-or-not : (a b : ℕ) → (a < b) ⊎ (b ≤ a)

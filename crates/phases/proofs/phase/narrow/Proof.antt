@@ -1,9 +1,9 @@
--- `grants::phase::narrow` meets its contract.
-use Rattle.grants.specs.Phase.{narrowed}
+-- `phases::phase::narrow` meets its contract.
+use Rattle.phases.specs.Phase.{narrowed}
 use borrow.Author.Tests.{lt-ltb, le-ltb}
 use borrow.Author.Needs.{needs}
-use Rattle.grants.proofs.phase.narrow.Statement.{statement}
-use Rattle.grants.proofs.phase.narrow.Tie as tie
+use Rattle.phases.proofs.phase.narrow.Statement.{statement}
+use Rattle.phases.proofs.phase.narrow.Tie as tie
 
 sub-smaller : tie.Need-sub-smaller
 sub-smaller c = search needs

@@ -3,9 +3,9 @@
 ghost use Prim.Native.Nat.{_+_, min};
 ghost use mathlib.Core.Path.{_≡_};
 ghost use lib.ListN.{length};
-ghost use Rattle.grants.specs.Round.{sum, most, turns, rounds};
-ghost use Rattle.grants.specs.Grant.{shared};
-ghost use Rattle.grants.specs.Phase.{extra, raised, roomy, narrowed, leastRoom, Fitting, Sized};
+ghost use Rattle.phases.specs.Round.{sum, most, turns, rounds};
+ghost use Rattle.phases.specs.Share.{shared};
+ghost use Rattle.phases.specs.Phase.{extra, raised, roomy, narrowed, leastRoom, Fitting, Sized};
 
 fn smaller(a: u32, b: u32) -> u32
     ensures { λ r. ⌜ r ≡ min a b ⌝ }
@@ -27,7 +27,7 @@ fn portion(words: u32, has: u32, most: u32) -> u32
 }
 
 // Each gets the smaller of its share and its words left.
-pub(crate) fn share_out(shares: &[u32], left: &[u32], grants: &mut [u32])
+pub fn share_out(shares: &[u32], left: &[u32], grants: &mut [u32])
     requires { ⌜ (length (now shares) ≡ length (now grants)) × (length (now left) ≡ length (now grants)) ⌝ }
     ensures { λ _. ⌜ now (grants .exit) ≡ shared (now (shares .entry)) (now (left .entry)) ⌝ }
 {
@@ -108,7 +108,7 @@ fn round(words: u32, limits: &[u32], left: &[u32], grants: &mut [u32])
 }
 
 // What is left of the period, round by round.
-pub(crate) fn deal(words: u32, limits: &[u32], left: &[u32], grants: &mut [u32])
+pub fn deal(words: u32, limits: &[u32], left: &[u32], grants: &mut [u32])
     requires { ⌜ Sized (now limits) (now left) (now grants) ⌝ }
     ensures { λ _. ⌜ now (grants .exit) ≡ rounds (sum (now (grants .entry)) + words) (most (now (limits .entry)) (now (left .entry))) (sum (now (grants .entry)) + words) (now (grants .entry)) ⌝ }
 {

@@ -1,15 +1,15 @@
--- `grants::phase::count` meets its contract.
-use Rattle.grants.proofs.Loops.{extra-few, roomy-few, roomy-one}
-use Rattle.grants.specs.Phase.{roomy}
-use Rattle.grants.specs.Round.{most}
+-- `phases::phase::count` meets its contract.
+use Rattle.phases.proofs.Loops.{extra-few, roomy-few, roomy-one}
+use Rattle.phases.specs.Phase.{roomy}
+use Rattle.phases.specs.Round.{most}
 use denote.Ref.{now}
 use mathlib.Core.Path.{_≡_, refl}
 use Prim.Native.Nat.{_≤_, _-_}
 use lib.ListN.{length, getD}
 use borrow.Author.Needs.{needs}
 use native.Mathlib.Omega.{arith}
-use Rattle.grants.proofs.phase.count.Statement.{statement}
-use Rattle.grants.proofs.phase.count.Tie as tie
+use Rattle.phases.proofs.phase.count.Statement.{statement}
+use Rattle.phases.proofs.phase.count.Tie as tie
 
 abbrev Inv-loop : tie.InvT-loop
 Inv-loop limits left grants n₀ i₀ n i = (i ≤ length grants) × (n ≡ roomy (most limits left) i grants)

@@ -1,14 +1,14 @@
--- `grants::phase::share_out` meets its contract.
-use Rattle.grants.proofs.Loops.{written, all-written, getD-shared, length-shared}
-use Rattle.grants.specs.Grant.{shared}
+-- `phases::phase::share_out` meets its contract.
+use Rattle.phases.proofs.Loops.{written, all-written, getD-shared, length-shared}
+use Rattle.phases.specs.Share.{shared}
 use denote.Ref.{now}
 use mathlib.Core.Path.{_≡_, refl, sym, _∙_}
 use Prim.Native.Nat.{_≤_, _-_}
 use lib.ListN.{length, length-set, take}
 use borrow.Author.Needs.{needs}
 use native.Mathlib.Omega.{arith}
-use Rattle.grants.proofs.phase.share_out.Statement.{statement}
-use Rattle.grants.proofs.phase.share_out.Tie as tie
+use Rattle.phases.proofs.phase.share_out.Statement.{statement}
+use Rattle.phases.proofs.phase.share_out.Tie as tie
 
 abbrev Inv-loop : tie.InvT-loop
 Inv-loop shares left grants₀ i₀ grants i = (i ≤ length grants₀) × (length grants ≡ length grants₀) × (take i grants ≡ take i (shared shares left))

@@ -8,9 +8,9 @@ use mathlib.Core.Logic.{_⊎_, inl, inr, ⊎-elim}
 use lib.ListN.{length, getD, set, length-set}
 use lib.Seq.{getD-set-same, getD-set-other, set-getD, ext-getD}
 use borrow.Author.Tests.{lt-ltb, le-ltb}
-use Rattle.grants.specs.Round.{sum, turn, turns, rounds}
-use Rattle.grants.specs.Phase.{extra, raised, roomy, narrowed, leastRoom, Fitting}
-use Rattle.grants.proofs.Turns.{below-or-not, sum-set, extra-some, extra-none, turn-is, sum-turns, length-turns, turns-later, no-room, rounds-still, enough, rounds-add}
+use Rattle.phases.specs.Round.{sum, turn, turns, rounds}
+use Rattle.phases.specs.Phase.{extra, raised, roomy, narrowed, leastRoom, Fitting}
+use Rattle.phases.proofs.Turns.{below-or-not, sum-set, extra-some, extra-none, turn-is, sum-turns, length-turns, turns-later, no-room, rounds-still, enough, rounds-add}
 
 module _ (most : ℕ → ℕ) where
   pub length-raised : (k n : ℕ) (g : List ℕ) → length (raised k most n g) ≡ length g

@@ -1,16 +1,16 @@
--- `grants::phase::round` meets its contract.
-use Rattle.grants.proofs.Loops.{portion-fits, portion-few, turns-one}
-use Rattle.grants.proofs.Turns.{sum-set}
-use Rattle.grants.specs.Phase.{extra}
-use Rattle.grants.specs.Round.{sum, most, turns}
+-- `phases::phase::round` meets its contract.
+use Rattle.phases.proofs.Loops.{portion-fits, portion-few, turns-one}
+use Rattle.phases.proofs.Turns.{sum-set}
+use Rattle.phases.specs.Phase.{extra}
+use Rattle.phases.specs.Round.{sum, most, turns}
 use denote.Ref.{now}
 use mathlib.Core.Path.{_≡_, refl, _∙_, ap}
 use Prim.Native.Nat.{ℕ, _+_, _≤_, _-_}
 use lib.ListN.{length, getD, length-set}
 use borrow.Author.Needs.{needs}
 use native.Mathlib.Omega.{arith}
-use Rattle.grants.proofs.phase.round.Statement.{statement}
-use Rattle.grants.proofs.phase.round.Tie as tie
+use Rattle.phases.proofs.phase.round.Statement.{statement}
+use Rattle.phases.proofs.phase.round.Tie as tie
 
 abbrev Inv-loop : tie.InvT-loop
 Inv-loop words limits left grants₀ rest₀ i₀ grants rest i = (i ≤ length grants₀) × (length grants ≡ length grants₀) × (sum grants + rest ≡ sum grants₀ + words) × (grants ≡ turns (sum grants₀ + words) (most limits left) i grants₀)

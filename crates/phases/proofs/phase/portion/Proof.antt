@@ -1,8 +1,8 @@
--- `grants::phase::portion` meets its contract.
-use Rattle.grants.specs.Phase.{extra}
+-- `phases::phase::portion` meets its contract.
+use Rattle.phases.specs.Phase.{extra}
 use borrow.Author.Tests.{lt-ltb, le-ltb}
-use Rattle.grants.proofs.phase.portion.Statement.{statement}
-use Rattle.grants.proofs.phase.portion.Tie as tie
+use Rattle.phases.proofs.phase.portion.Statement.{statement}
+use Rattle.phases.proofs.phase.portion.Tie as tie
 
 returns : tie.Need-returns
 unfolding extra

@@ -1,15 +1,15 @@
--- `grants::phase::raise` meets its contract.
-use Rattle.grants.proofs.Loops.{raised-fits, raised-one}
-use Rattle.grants.specs.Phase.{raised}
-use Rattle.grants.specs.Round.{most}
+-- `phases::phase::raise` meets its contract.
+use Rattle.phases.proofs.Loops.{raised-fits, raised-one}
+use Rattle.phases.specs.Phase.{raised}
+use Rattle.phases.specs.Round.{most}
 use denote.Ref.{now}
 use mathlib.Core.Path.{_≡_, refl}
 use Prim.Native.Nat.{_≤_, _-_}
 use lib.ListN.{length, length-set}
 use borrow.Author.Needs.{needs}
 use native.Mathlib.Omega.{arith}
-use Rattle.grants.proofs.phase.raise.Statement.{statement}
-use Rattle.grants.proofs.phase.raise.Tie as tie
+use Rattle.phases.proofs.phase.raise.Statement.{statement}
+use Rattle.phases.proofs.phase.raise.Tie as tie
 
 abbrev Inv-loop : tie.InvT-loop
 Inv-loop words limits left grants₀ i₀ grants i = (i ≤ length grants₀) × (length grants ≡ length grants₀) × (grants ≡ raised words (most limits left) i grants₀)

@@ -1,16 +1,16 @@
--- `grants::phase::deal` meets its contract.
+-- `phases::phase::deal` meets its contract.
 use Prim.Native.Nat.{_+_, _-_, _≤_}
--- `grants::phase::deal` meets its contract.
-use Rattle.grants.proofs.Phases.{each-fits, each-within, remains-after, rounds-after, less-after, last-round, no-round}
-use Rattle.grants.specs.Phase.{roomy}
-use Rattle.grants.specs.Round.{sum, most, rounds}
+-- `phases::phase::deal` meets its contract.
+use Rattle.phases.proofs.Phases.{each-fits, each-within, remains-after, rounds-after, less-after, last-round, no-round}
+use Rattle.phases.specs.Phase.{roomy}
+use Rattle.phases.specs.Round.{sum, most, rounds}
 use denote.Ref.{now}
 use mathlib.Core.Path.{_≡_, refl, _∙_}
 use lib.ListN.{length}
 use borrow.Author.Needs.{needs}
 use native.Mathlib.Omega.{arith}
-use Rattle.grants.proofs.phase.deal.Statement.{statement}
-use Rattle.grants.proofs.phase.deal.Tie as tie
+use Rattle.phases.proofs.phase.deal.Statement.{statement}
+use Rattle.phases.proofs.phase.deal.Tie as tie
 
 abbrev Inv-loop : tie.InvT-loop
 Inv-loop words limits left grants₀ rest₀ n₀ grants rest n = (length grants ≡ length grants₀) × (n ≡ roomy (most limits left) (length grants) grants) × (sum grants + rest ≡ sum grants₀ + words) × (rounds (sum grants₀ + words) (most limits left) (sum grants₀ + words) grants ≡ rounds (sum grants₀ + words) (most limits left) (sum grants₀ + words) grants₀) × (rest ≤ words)
