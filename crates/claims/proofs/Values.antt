@@ -3,7 +3,7 @@ use mathlib.Core.Path.{refl}
 use lib.Ieee.{ofBits, toBits, eq, lt, isNan}
 use Rattle.machine.specs.Window.{wordAt}
 use Rattle.numbers.specs.Compare.{compareFlags}
-use Rattle.rounding.specs.Flush.{flush}
+use Rattle.floats.specs.Flush.{flush}
 use Rattle.rounding.specs.Rounding.{roundingOf, rounded}
 use Rattle.widths.specs.Convert.{narrowed, narrow}
 use Rattle.integers.specs.Integer.{integerOf, toInteger}

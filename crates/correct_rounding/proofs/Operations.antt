@@ -18,8 +18,8 @@ use Rattle.correct_rounding.specs.Rounded.{ratio, CorrectlyRounded}
 use Rattle.rounding.specs.declared.rounding.Rounding.{Rounding}
 use Rattle.rounding.specs.declared.rounding.Rounding.the-variants.{Nearest}
 use Rattle.correct_rounding.proofs.Rounded.{rounded-correct}
-use Rattle.rounding.proofs.Flushing.{flush-off}
-use Rattle.rounding.proofs.Written.{rounded-nearest}
+use Rattle.floats.proofs.Flushing.{flush-off}
+use Rattle.packing.proofs.Written.{rounded-nearest}
 use Rattle.numbers.specs.Arithmetic.{apply, accumulates, defaultNan, applied}
 use Rattle.widths.specs.Convert.{narrowed, narrow}
 use Rattle.integers.specs.Integer.{integerValue, fromInteger}

@@ -19,7 +19,7 @@ use Rattle.rounding.specs.declared.rounding.Rounding.{Rounding}
 use Rattle.rounding.specs.declared.rounding.Rounding.the-variants.{Nearest, Up, Down, Zero}
 use Rattle.rounding.proofs.Order.{compare-scale}
 use Rattle.correct_rounding.proofs.Rounded.{from-below, from-above, evens, not-more, not-less, settled-correct, settled-even}
-use Rattle.rounding.proofs.Formed.{lead-digit}
+use Rattle.packing.proofs.Formed.{lead-digit}
 use Rattle.roots.specs.Root.{isqrt, rootCut, rootOf, sqrtOf, NearRoot}
 use Rattle.correct_rounding.specs.Roots.{Correct}
 use Rattle.roots.proofs.RootFormed.{root-k, root-c, root-word}

@@ -15,14 +15,14 @@ use lib.Ieee.Bits.{ofBits-toBits}
 use lib.Ieee.Fits.{odd-fits, inf-fits, kept-lt}
 use lib.Ieee.Exact.{HasValue, odd-sign}
 use Rattle.rounding.specs.Rounding.{cutTo, largest, limit, beyond, settled, dropped, rounded, Near, Floor, Ceil, Names}
-use Rattle.rounding.specs.Pack.{packed}
+use Rattle.packing.specs.Pack.{packed}
 use Rattle.correct_rounding.specs.Rounded.{Real, ratio, AtMost, AtLeast, Each, NearestEven, LargestNotAbove, LeastNotBelow, Named, CorrectlyRounded}
 use Rattle.rounding.specs.declared.rounding.Rounding.{Rounding}
 use Rattle.rounding.specs.declared.rounding.Rounding.the-variants.{Nearest, Up, Down, Zero}
-use Rattle.rounding.proofs.Units.{Lead, prec-pos}
+use Rattle.floats.proofs.Units.{Lead, prec-pos}
 use Rattle.rounding.proofs.Cutting.{move-ge, move-le}
-use Rattle.rounding.proofs.Written.{settled-bits}
-use Rattle.rounding.proofs.Formed.{lead-digit}
+use Rattle.packing.proofs.Written.{settled-bits}
+use Rattle.packing.proofs.Formed.{lead-digit}
 use Rattle.rounding.proofs.Sight.{cut-names}
 
 -- ---- c * 2 ^ k against every value. L h: h halves are at most the number; U h: at least

@@ -7,12 +7,12 @@ use native.Mathlib.Nat.{le-trans, mul-le-mul-right, eq-zero-or-pos}
 use native.Mathlib.Omega.{arith}
 use lib.Dec.{leb, lit≤, lit<}
 use lib.Ieee.{Float, nan, inf, fin, Format, binary32, binary64, low, up, down, hid, top, ofBits, toBits}
-use Rattle.rounding.specs.Flush.{flush}
+use Rattle.floats.specs.Flush.{flush}
 use Rattle.rounding.specs.Rounding.{cutTo, rounded}
 use Rattle.rounding.specs.declared.rounding.Rounding.{Rounding}
 use Rattle.rounding.specs.declared.rounding.Rounding.the-variants.{Nearest}
-use Rattle.rounding.proofs.Flushing.{NotSubnormal, flush-none}
-use Rattle.rounding.proofs.Formed.{rounded-lt, rounded-normal, rounded-zero}
+use Rattle.floats.proofs.Flushing.{NotSubnormal, flush-none}
+use Rattle.packing.proofs.Formed.{rounded-lt, rounded-normal, rounded-zero}
 use Rattle.integers.specs.Integer.{fromInteger, clamped, integerOf, toInteger}
 
 -- ---- integers as floats

@@ -2,7 +2,7 @@
 use mathlib.Core.Path.{_≡_, refl}
 use mathlib.Core.Bool.{true, false}
 use lib.Ieee.{binary32, binary64, ofBits, toBits, odd}
-use Rattle.rounding.specs.Flush.{flush}
+use Rattle.floats.specs.Flush.{flush}
 use Rattle.rounding.specs.Rounding.{roundingOf, rounded}
 use Rattle.integers.specs.Integer.{fromInteger, integerOf, toInteger}
 

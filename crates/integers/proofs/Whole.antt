@@ -13,17 +13,17 @@ use lib.Ieee.Bits.{ofBits-toBits, ofBits-fits}
 use lib.Ieee.Exact.{HasValue}
 use borrow.Author.Tests.{le-leb, lt-leb, le-ltb}
 use Rattle.rounding.specs.Rounding.{cutTo, rounded, IsCut}
-use Rattle.rounding.specs.Pack.{ceiling, IsSettled}
+use Rattle.packing.specs.Pack.{ceiling, IsSettled}
 use Rattle.integers.specs.Integer.{fromInteger, clamped, integerOf, toInteger}
 use Rattle.widths.specs.Convert.{widen}
 use Rattle.rounding.specs.Lift.{Lifted}
 use Rattle.rounding.specs.declared.rounding.Rounding.{Rounding}
 use Rattle.rounding.specs.declared.rounding.Rounding.the-variants.{Nearest}
-use Rattle.rounding.proofs.Units.{slide, reads-low, reads-normal, reads-inf}
-use Rattle.rounding.proofs.Patterns.{nan-of-fields}
+use Rattle.floats.proofs.Units.{slide, reads-low, reads-normal, reads-inf}
+use Rattle.floats.proofs.Patterns.{nan-of-fields}
 use Rattle.rounding.proofs.Cutting.{move-ge, cut-le, cut-same, cut-far}
-use Rattle.rounding.proofs.Written.{ceiling-ge, rounded-bits, exact-is, over-is, tiny-is}
-use Rattle.rounding.proofs.Settle.{settled-same}
+use Rattle.packing.proofs.Written.{ceiling-ge, rounded-bits, exact-is, over-is, tiny-is}
+use Rattle.packing.proofs.Settle.{settled-same}
 use Rattle.rounding.proofs.Lifting.{moved-is}
 
 -- ---- a whole number as a float, over the format

@@ -4,8 +4,8 @@ use mathlib.Core.Bool.{Bool, true, false, _&&_, cond, _||_}
 use Prim.Native.Nat.{ℕ, _/_, _%_, _^_}
 use lib.Ieee.{Float, nan, inf, fin, Format, add, sub, mul, div, neg, isNan, ofBits, toBits, nanBits}
 use lib.Ieee.Bits.{nanBits-is}
-use Rattle.rounding.specs.Flush.{flush}
-use Rattle.rounding.proofs.Flushing.{flush-off}
+use Rattle.floats.specs.Flush.{flush}
+use Rattle.floats.proofs.Flushing.{flush-off}
 use Rattle.numbers.specs.Arithmetic.{apply, accumulates, defaultNan, applied, arithmetic}
 use Rattle.numbers.specs.declared.arithmetic.Arithmetic.{Arithmetic}
 use Rattle.numbers.specs.declared.arithmetic.Arithmetic.the-variants.{MultiplyAccumulate, MultiplySubtract, NegateMultiplySubtract, NegateMultiplyAccumulate, Multiply, NegateMultiply, Add, Subtract, Divide}

@@ -6,7 +6,7 @@ use lib.Dec.{lit<}
 use lib.Ieee.{Float, Format, isNan, ne, eq, lt, ofBits}
 use lib.Ieee.Bits.{is-false}
 use Rattle.numbers.specs.Compare.{flagsOf, compareFlags}
-use Rattle.rounding.proofs.Patterns.{no-nan, is-nan}
+use Rattle.floats.proofs.Patterns.{no-nan, is-nan}
 
 abbrev pick : Bool → Bool → Bool → Bool → ℕ
 pick u v e l = cond (u || v) 3 (cond e 6 (cond l 8 2))

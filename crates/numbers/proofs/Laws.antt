@@ -8,7 +8,7 @@ use lib.Ieee.Fits.{add-fits, sub-fits, mul-fits, div-fits, neg-fits}
 use Rattle.numbers.specs.Arithmetic.{apply, defaultNan, anyNan, applied, arithmetic}
 use Rattle.numbers.specs.declared.arithmetic.Arithmetic.{Arithmetic}
 use Rattle.numbers.specs.declared.arithmetic.Arithmetic.the-variants.{MultiplyAccumulate, MultiplySubtract, NegateMultiplySubtract, NegateMultiplyAccumulate, Multiply, NegateMultiply, Add, Subtract, Divide}
-use Rattle.rounding.proofs.Flushing.{flush-lt}
+use Rattle.floats.proofs.Flushing.{flush-lt}
 
 apply-fits : (f : Format) (kind : Arithmetic) (n m d : Float) → T (fits f (apply f kind n m d))
 apply-fits f MultiplyAccumulate n m d = add-fits f d _

@@ -2,7 +2,7 @@
 use Prim.Native.Nat.{ℕ, _+_, _*_, _/_}
 use mathlib.Core.Bool.{Bool, true, false, _&&_, cond, _||_}
 use lib.Ieee.{Float, Format, add, sub, mul, div, neg, ofBits, toBits, nanBits, hid, ones}
-use Rattle.rounding.specs.Flush.{flush}
+use Rattle.floats.specs.Flush.{flush}
 use Rattle.numbers.specs.declared.arithmetic.Arithmetic.{Arithmetic}
 use Rattle.numbers.specs.declared.arithmetic.Arithmetic.the-variants.{MultiplyAccumulate, MultiplySubtract, NegateMultiplySubtract, NegateMultiplyAccumulate, Multiply, NegateMultiply, Add, Subtract, Divide}
 

@@ -2,14 +2,14 @@
 ghost use mathlib.Core.Path.{_≡_};
 ghost use lib.Ieee.{binary32, binary64, ofBits};
 ghost use Rattle.numbers.specs.Arithmetic.{apply, accumulates, applied, arithmetic};
-use rounding::flush::flush32;
-use rounding::flush::flush64;
-use rounding::word::bits32;
-use rounding::word::bits64;
-use rounding::word::float32;
-use rounding::word::float64;
-use rounding::word::is_nan32;
-use rounding::word::is_nan64;
+use floats::flush::flush32;
+use floats::flush::flush64;
+use floats::word::bits32;
+use floats::word::bits64;
+use floats::word::float32;
+use floats::word::float64;
+use floats::word::is_nan32;
+use floats::word::is_nan64;
 
 // In the order of word bits 23, 21, 20, 6 as a number.
 pub enum Arithmetic {

@@ -2,8 +2,8 @@
 ghost use mathlib.Core.Path.{_≡_};
 ghost use lib.Ieee.{binary32, binary64};
 ghost use Rattle.numbers.specs.Compare.{compareFlags};
-use rounding::word::float32;
-use rounding::word::float64;
+use floats::word::float32;
+use floats::word::float64;
 
 pub fn compare32(a: u32, b: u32) -> u32
     ensures { λ r. ⌜ r ≡ compareFlags binary32 a b ⌝ }

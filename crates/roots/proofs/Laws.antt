@@ -9,9 +9,9 @@ use lib.Ieee.Fits.{down-pos}
 use Rattle.roots.specs.Root.{sqrtOf, squareRoot}
 use Rattle.rounding.specs.declared.rounding.Rounding.{Rounding}
 use Rattle.rounding.specs.declared.rounding.Rounding.the-variants.{Nearest}
-use Rattle.rounding.proofs.Flushing.{NotSubnormal, flush-none}
+use Rattle.floats.proofs.Flushing.{NotSubnormal, flush-none}
 use Rattle.roots.proofs.RootFormed.{root-lt, root-normal}
-use Rattle.rounding.proofs.Words.{nan-word, inf-word, zero-word, reaches}
+use Rattle.packing.proofs.Words.{nan-word, inf-word, zero-word, reaches}
 
 sqrt-word : (mode : Rounding) (f : Format) (v : Float) → T (fits f v) → (toBits f (sqrtOf mode f v) < 2 * top f) × NotSubnormal f (toBits f (sqrtOf mode f v))
 unfolding sqrtOf

@@ -11,17 +11,17 @@ use lib.Pow.{pow-add, pow-pos}
 use lib.Ieee.{Format, binary32, binary64, prec, low, hid, top, toBits}
 use lib.Ieee.Fits.{kept-lt}
 use Rattle.rounding.specs.Rounding.{dropped}
-use Rattle.rounding.specs.Pack.{packed}
+use Rattle.packing.specs.Pack.{packed}
 use Rattle.roots.specs.Root.{isqrt, rootCut, rootOf}
 use Rattle.rounding.specs.declared.rounding.Rounding.{Rounding}
-use Rattle.rounding.proofs.Units.{Lead}
+use Rattle.floats.proofs.Units.{Lead}
 use Rattle.rounding.proofs.Cutting.{move-ge, move-le}
-use Rattle.rounding.proofs.Written.{settled-bits}
+use Rattle.packing.proofs.Written.{settled-bits}
 use Rattle.roots.proofs.Squares.{is-root, isqrt-unique, isqrt-ge}
-use Rattle.rounding.proofs.Flushing.{NotSubnormal}
+use Rattle.floats.proofs.Flushing.{NotSubnormal}
 use Rattle.roots.specs.Root.{isqrt, rootCut, rootOf}
 use Rattle.roots.proofs.Squares.{is-root, isqrt-unique, isqrt-ge}
-use Rattle.rounding.proofs.Formed.{lead-digit, keeps, packed-lt, packed-normal}
+use Rattle.packing.proofs.Formed.{lead-digit, keeps, packed-lt, packed-normal}
 
 -- ---- a root
 

@@ -18,7 +18,7 @@ use Rattle.roots.specs.Root.{isqrt, rootCut, rootOf, sqrtOf, NearRoot}
 use Rattle.rounding.specs.declared.rounding.Rounding.the-variants.{Nearest}
 use Rattle.rounding.proofs.Order.{Cmp, cmp}
 use Rattle.roots.proofs.RootFormed.{root-k, root-c, root-word, root-keeps}
-use Rattle.rounding.proofs.Words.{reaches}
+use Rattle.packing.proofs.Words.{reaches}
 use Rattle.rounding.proofs.Sight.{parity, even}
 use Rattle.roots.proofs.Squares.{is-root, isqrt-lt}
 

@@ -14,13 +14,13 @@ use lib.Ieee.Fits.{down-pos}
 use lib.Ieee.Bits.{is-true, is-false, toBits-ofBits}
 use lib.Ieee.Exact.{HasValue}
 use Rattle.rounding.specs.declared.rounding.Rounding.{Rounding}
-use Rattle.rounding.specs.Pack.{ceiling}
+use Rattle.packing.specs.Pack.{ceiling}
 use Rattle.roots.specs.Root.{isqrt, rootCut, rootOf, sqrtOf}
 use Rattle.rounding.specs.Lift.{Lifted}
-use Rattle.rounding.proofs.Units.{prec-pos, slide, twice-hid, hid-pos, reads-low, reads-mid, reads-inf, reads-zero, reads-normal, field-le}
-use Rattle.rounding.proofs.Patterns.{nan-of-fields}
+use Rattle.floats.proofs.Units.{prec-pos, slide, twice-hid, hid-pos, reads-low, reads-mid, reads-inf, reads-zero, reads-normal, field-le}
+use Rattle.floats.proofs.Patterns.{nan-of-fields}
 use Rattle.rounding.proofs.Cutting.{move-le}
-use Rattle.rounding.proofs.Written.{ceiling-ge}
+use Rattle.packing.proofs.Written.{ceiling-ge}
 use Rattle.roots.proofs.Squares.{isqrt-ge, isqrt-lt, sqrt-bits}
 
 -- ---- what has no root

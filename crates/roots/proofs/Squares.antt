@@ -13,11 +13,11 @@ use lib.Ieee.Fits.{down-pos}
 use lib.Ieee.Exact.{HasValue}
 use Rattle.rounding.specs.declared.rounding.Rounding.{Rounding}
 use Rattle.rounding.specs.Rounding.{move, settled, dropped}
-use Rattle.rounding.specs.Pack.{packed}
+use Rattle.packing.specs.Pack.{packed}
 use Rattle.roots.specs.Root.{rootIn, isqrt, rootCut, rootOf, sqrtOf}
-use Rattle.rounding.proofs.Units.{Lead, drop-is}
+use Rattle.floats.proofs.Units.{Lead, drop-is}
 use Rattle.rounding.proofs.Cutting.{move-ge, move-le}
-use Rattle.rounding.proofs.Written.{settled-bits}
+use Rattle.packing.proofs.Written.{settled-bits}
 use Rattle.rounding.proofs.Order.{compare-scale}
 
 -- ---- squares

@@ -1,7 +1,7 @@
 -- Values that the definition is held against, each computed. Assumes nothing.
 use mathlib.Core.Path.{_≡_, refl}
 use lib.Ieee.{binary32, binary64, ofBits, toBits, odd}
-use Rattle.rounding.specs.Flush.{flush}
+use Rattle.floats.specs.Flush.{flush}
 use Rattle.roots.specs.Root.{isqrt, rootOf, sqrtOf, squareRoot}
 
 -- the roots of 2 and of the subnormal 3

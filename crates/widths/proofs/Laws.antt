@@ -9,14 +9,14 @@ use lib.Count.{leadingZeros}
 use lib.Ieee.{Float, nan, inf, fin, binary32, binary64, up, down, ofBits, toBits}
 use lib.Ieee.Bits.{toBits-lt, ofBits-fits}
 use lib.Ieee.Fits.{fits-widens, down-pos}
-use Rattle.rounding.specs.Flush.{flush}
+use Rattle.floats.specs.Flush.{flush}
 use Rattle.rounding.specs.Rounding.{rounded}
 use Rattle.rounding.specs.Lift.{Lifted}
 use Rattle.rounding.specs.declared.rounding.Rounding.the-variants.{Nearest}
-use Rattle.rounding.proofs.Flushing.{NotSubnormal, flush-none, flush-lt}
-use Rattle.rounding.proofs.Formed.{rounded-lt}
+use Rattle.floats.proofs.Flushing.{NotSubnormal, flush-none, flush-lt}
+use Rattle.packing.proofs.Formed.{rounded-lt}
 use Rattle.rounding.proofs.Lifting.{moved-is, lifted}
-use Rattle.rounding.proofs.Words.{nan-word, inf-word}
+use Rattle.packing.proofs.Words.{nan-word, inf-word}
 use Rattle.widths.specs.Convert.{narrowed, narrow, widen}
 use Rattle.widths.proofs.Widen.{wide-inf, wide-nan, wide-mid, wide-zero, wide-low}
 

@@ -10,18 +10,18 @@ use lib.Pow.{pow-add, pow-pos}
 use lib.Ieee.{Float, nan, inf, fin, Format, binary32, binary64, up, down, hid, ones, top, ofBits, toBits}
 use lib.Ieee.Fits.{down-pos}
 use lib.Ieee.Exact.{HasValue}
-use Rattle.rounding.specs.Flush.{flush}
+use Rattle.floats.specs.Flush.{flush}
 use Rattle.rounding.specs.Rounding.{rounded, exact, over, tiny, cutTo, IsCut}
-use Rattle.rounding.specs.Pack.{packed, IsSettled}
+use Rattle.packing.specs.Pack.{packed, IsSettled}
 use Rattle.widths.specs.Convert.{narrowed, onFinite, narrow, IsNarrowed}
 use Rattle.rounding.specs.declared.rounding.Rounding.{Rounding}
 use Rattle.rounding.specs.declared.rounding.Rounding.the-variants.{Nearest}
-use Rattle.rounding.proofs.Units.{slide, sign-bit, reads-low, reads-normal, reads-inf}
-use Rattle.rounding.proofs.Patterns.{nan-of-fields}
-use Rattle.rounding.proofs.Written.{rounded-bits, rounded-same, exact-same, over-same, tiny-same}
+use Rattle.floats.proofs.Units.{slide, sign-bit, reads-low, reads-normal, reads-inf}
+use Rattle.floats.proofs.Patterns.{nan-of-fields}
+use Rattle.packing.proofs.Written.{rounded-bits, rounded-same, exact-same, over-same, tiny-same}
 use Rattle.rounding.proofs.Cutting.{cut-ge, cut-le, cut-by-sum}
-use Rattle.rounding.proofs.Flushing.{flush-large}
-use Rattle.rounding.proofs.Settle.{settled-same}
+use Rattle.floats.proofs.Flushing.{flush-large}
+use Rattle.packing.proofs.Settle.{settled-same}
 
 -- ---- by the value's size a / c
 

@@ -1,7 +1,7 @@
 -- Values that the definitions are held against, each computed. Assumes nothing.
 use mathlib.Core.Path.{_≡_, refl}
 use lib.Ieee.{ofBits, toBits}
-use Rattle.rounding.specs.Flush.{flush}
+use Rattle.floats.specs.Flush.{flush}
 use Rattle.rounding.specs.Rounding.{rounded}
 use Rattle.widths.specs.Convert.{narrowed, narrow}
 

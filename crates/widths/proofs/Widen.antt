@@ -10,8 +10,8 @@ use lib.Pow.{pow-add, pow-pos}
 use lib.Ieee.{Float, binary32, binary64, low, top, ofBits, toBits}
 use lib.Ieee.Exact.{HasValue}
 use Rattle.rounding.specs.Lift.{Lifted}
-use Rattle.rounding.proofs.Units.{writes, reads-low, reads-mid, reads-inf, rescale, slide, sign-bit}
-use Rattle.rounding.proofs.Patterns.{nan-of-fields}
+use Rattle.floats.proofs.Units.{writes, reads-low, reads-mid, reads-inf, rescale, slide, sign-bit}
+use Rattle.floats.proofs.Patterns.{nan-of-fields}
 
 -- ---- the same value as a double
 

@@ -2,11 +2,11 @@
 ghost use mathlib.Core.Path.{_≡_};
 ghost use lib.Ieee.{binary32, binary64, ofBits};
 ghost use Rattle.widths.specs.Convert.{IsNarrowed, narrow, widen};
-use rounding::flush::flush32;
+use floats::flush::flush32;
+use packing::pack::Settled32;
+use packing::pack::settle32;
+use packing::pack::sign32;
 use rounding::lift::lift;
-use rounding::pack::Settled32;
-use rounding::pack::settle32;
-use rounding::pack::sign32;
 use rounding::rounding::Rounding;
 use rounding::rounding::cut;
 

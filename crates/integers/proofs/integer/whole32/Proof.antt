@@ -1,5 +1,5 @@
 use Rattle.integers.proofs.Whole.{whole-zero, kept-few, whole-cut}
-use Rattle.rounding.proofs.Settle.{sign-le}
+use Rattle.packing.proofs.Settle.{sign-le}
 use lib.Ieee.{binary32}
 use lib.Dec.{lit<}
 use mathlib.Core.Logic.{inl}

@@ -2,7 +2,7 @@ use native.Mathlib.Omega.{arith}
 use mathlib.Core.Logic.{inl, inr}
 use lib.Dec.{leb, lit<}
 use lib.Ieee.{binary32}
-use Rattle.rounding.proofs.Settle.{sign-le}
+use Rattle.packing.proofs.Settle.{sign-le}
 use Rattle.widths.proofs.Narrow.{narrow-inf, narrow-nan, narrow-low, narrow-mid}
 use borrow.Author.Needs.{needs}
 use Rattle.widths.proofs.convert.narrowed32.Statement.{statement}
