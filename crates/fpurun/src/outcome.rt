@@ -1,7 +1,9 @@
-// Writes what came of a run: the stop, the places that are unknown, and what changed. What each line says is crate `report`'s.
+// Writes what came of a run: the stop, the places that are unknown, and what changed. What each line says is a definition of crates `report`
+// and `place_lines`.
 use super::output::print;
 use libc::STDOUT_FILENO;
 use machine::place::WINDOW;
+use place_lines::place;
 use place_values::place::next_change;
 use place_values::place::next_unknown;
 use report::line;
@@ -25,7 +27,7 @@ pub fn unknown(marks: &[u8], window_marks: &[u8]) {
     let mut first = true;
     let mut p = next_unknown(marks, window_marks, 0, end);
     while p < end {
-        print(line::unknown(first, p));
+        print(place::unknown(first, p));
         first = false;
         p = next_unknown(marks, window_marks, p + 1, end);
     }
@@ -50,7 +52,7 @@ pub fn changed(
     let mut none = true;
     let mut p = next_change(state, marks, window, window_marks, s, m, w, v, 0, end);
     while p < end {
-        print(line::change(state, marks, window, window_marks, s, m, w, v, p));
+        print(place::change(state, marks, window, window_marks, s, m, w, v, p));
         none = false;
         p = next_change(state, marks, window, window_marks, s, m, w, v, p + 1, end);
     }

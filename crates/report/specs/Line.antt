@@ -1,4 +1,4 @@
--- The lines of a report, in bytes of ASCII.
+-- The lines of a report that tell of the run, in bytes of ASCII.
 use Prim.Native.Nat.{ℕ, _+_, _-_, _%_, _^_}
 use mathlib.Core.Bool.{Bool, cond}
 use mathlib.Core.List.{List, [], _++_}
@@ -6,15 +6,12 @@ use lib.Dec.{eqb, ltb}
 use lib.ListN.{length, getD}
 use Rattle.numerals.specs.Number.{hexText, decimalText}
 use Rattle.place_names.specs.Place.{placeText}
+use Rattle.place_lines.specs.Words.{closeText}
 use Rattle.report.specs.Words as words
 
 -- a count, of at most 32 bits
 abbrev pub countText : ℕ → List ℕ
 countText n = decimalText (n % 2 ^ 32)
-
--- a place by its name and its number
-unfoldable pub namedText : ℕ → List ℕ
-namedText p = placeText p ++ (words.openText ++ (decimalText p ++ words.closeText))
 
 -- a word of the list by its index: the first is word 1
 unfoldable pub wordText : List ℕ → ℕ → List ℕ
@@ -33,7 +30,7 @@ r15Text known x = cond known (words.r15Is ++ hexText x) words.r15Unknown
 
 -- the place that a run hangs on
 unfoldable pub hungText : ℕ → List ℕ
-hungText p = words.hangsOn ++ (placeText p ++ (words.placeIs ++ (decimalText p ++ words.closeText)))
+hungText p = words.hangsOn ++ (placeText p ++ (words.placeIs ++ (decimalText p ++ closeText)))
 
 -- the stop, by the number of its kind, with the count, the place and the address of the answer
 unfoldable pub stopText : ℕ → ℕ → ℕ → ℕ → List ℕ → Bool → ℕ → List ℕ
@@ -48,16 +45,3 @@ stopText kind count place address list known r15 =
 unfoldable pub ranText : ℕ → ℕ → List ℕ
 ranText count all =
     words.ranIs ++ (countText count ++ (words.ofText ++ (countText all ++ (words.wordsIs ++ (countText (all - count) ++ words.leftIs)))))
-
--- a place that is unknown, the first or a later one
-unfoldable pub unknownText : Bool → ℕ → List ℕ
-unknownText first p = cond first words.firstIs words.laterIs ++ namedText p
-
--- a value: of an unknown place none is shown
-unfoldable pub valueText : Bool → ℕ → List ℕ
-valueText known x = cond known (hexText x) words.unknownIs
-
--- a place whose mark or whose known value is another
-unfoldable pub changeText : ℕ → Bool → ℕ → Bool → ℕ → List ℕ
-changeText p was old is new =
-    words.changeIs ++ (namedText p ++ (words.firstIs ++ (valueText was old ++ (words.toIs ++ valueText is new))))

@@ -1,14 +1,6 @@
--- The words of a report, in bytes of ASCII.
+-- The words of the lines that tell of the run, in bytes of ASCII.
 use Prim.Native.Nat.{ℕ}
 use mathlib.Core.List.{List, [], _∷_}
-
--- ' ('
-abbrev pub openText : List ℕ
-openText = 32 ∷ 40 ∷ []
-
--- ')'
-abbrev pub closeText : List ℕ
-closeText = 41 ∷ []
 
 -- ' at word '
 abbrev pub atWordText : List ℕ
@@ -73,23 +65,3 @@ wordsIs = 32 ∷ 119 ∷ 111 ∷ 114 ∷ 100 ∷ 115 ∷ 44 ∷ 32 ∷ []
 -- ' left'
 abbrev pub leftIs : List ℕ
 leftIs = 32 ∷ 108 ∷ 101 ∷ 102 ∷ 116 ∷ []
-
--- ' '
-abbrev pub firstIs : List ℕ
-firstIs = 32 ∷ []
-
--- ', '
-abbrev pub laterIs : List ℕ
-laterIs = 44 ∷ 32 ∷ []
-
--- 'unknown'
-abbrev pub unknownIs : List ℕ
-unknownIs = 117 ∷ 110 ∷ 107 ∷ 110 ∷ 111 ∷ 119 ∷ 110 ∷ []
-
--- 'LF  '
-abbrev pub changeIs : List ℕ
-changeIs = 10 ∷ 32 ∷ 32 ∷ []
-
--- ' -> '
-abbrev pub toIs : List ℕ
-toIs = 32 ∷ 45 ∷ 62 ∷ 32 ∷ []

@@ -1,2 +1,2 @@
-// What is told of a run that ended: the stop, what is unknown then and what changed, line by line.
+// What is told of a run that ended: its stop, and how much of the list was run.
 pub mod line;

@@ -1,3 +1,4 @@
 -- Laws of a text that is cut at its room.
 
 pub mod Clipping
+pub mod Chain

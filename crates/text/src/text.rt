@@ -1,6 +1,7 @@
 // A text of at most 128 bytes that grows at its end. What does not fit is left out.
 ghost use mathlib.Core.Path.{_≡_};
 ghost use mathlib.Core.List.{[], _∷_, _++_};
+ghost use Prim.Native.Nat.{_%_, _^_};
 ghost use Rattle.numerals.specs.Number.{hexText, decimalText};
 ghost use Rattle.place_names.specs.Place.{placeText};
 ghost use Rattle.text.specs.Text.{textOf, clip};
@@ -96,4 +97,11 @@ impl Text {
         }
         self.push(b'w').add_decimal(p - WINDOW)
     }
+}
+
+// A count as a number to print.
+pub fn low(x: usize) -> u32
+    ensures { λ r. ⌜ r ≡ x % 2 ^ 32 ⌝ }
+{
+    (x % 0x1_0000_0000) as u32
 }

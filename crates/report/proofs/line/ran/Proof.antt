@@ -3,7 +3,7 @@ use native.Mathlib.Omega.{arith}
 use mathlib.Core.Path.{_≡_}
 use Prim.Native.Nat.{_-_}
 use Rattle.report.specs.Line.{ranText}
-use Rattle.report.proofs.Chain.{begun, more, ended}
+use Rattle.text.proofs.Chain.{begun, more, ended}
 use mathlib.Core.List.{append-assoc}
 use borrow.Author.Needs.{needs}
 use Rattle.report.proofs.line.ran.Statement.{statement}

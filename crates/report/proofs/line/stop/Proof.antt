@@ -1,7 +1,7 @@
 -- `report::line::stop` meets its contract.
 use Rattle.report.specs.Line.{stopText}
 use borrow.Author.Tests.{eq-eqb, ne-eqb}
-use Rattle.report.proofs.Chain.{begun, more, ended}
+use Rattle.text.proofs.Chain.{begun, more, ended}
 use mathlib.Core.List.{append-assoc}
 use borrow.Author.Needs.{needs}
 use Rattle.report.proofs.line.stop.Statement.{statement}

@@ -1,10 +1,10 @@
--- `report::line::changed` meets its contract.
-use Rattle.report.specs.Line.{changeText}
-use Rattle.report.proofs.Chain.{begun, more, ended}
+-- `place_lines::place::changed` meets its contract.
+use Rattle.place_lines.specs.Place.{changeText}
+use Rattle.text.proofs.Chain.{begun, more, ended}
 use mathlib.Core.List.{append-assoc}
 use borrow.Author.Needs.{needs}
-use Rattle.report.proofs.line.changed.Statement.{statement}
-use Rattle.report.proofs.line.changed.Tie as tie
+use Rattle.place_lines.proofs.place.changed.Statement.{statement}
+use Rattle.place_lines.proofs.place.changed.Tie as tie
 
 new-requires : tie.Need-new-requires
 new-requires c κs = search needs

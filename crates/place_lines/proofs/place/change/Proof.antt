@@ -1,7 +1,7 @@
--- `report::line::change` meets its contract.
+-- `place_lines::place::change` meets its contract.
 use borrow.Author.Needs.{needs}
-use Rattle.report.proofs.line.change.Statement.{statement}
-use Rattle.report.proofs.line.change.Tie as tie
+use Rattle.place_lines.proofs.place.change.Statement.{statement}
+use Rattle.place_lines.proofs.place.change.Tie as tie
 
 is-known-requires : tie.Need-is-known-requires
 is-known-requires c κs = search needs

@@ -1,10 +1,10 @@
--- `report::line::unknown` meets its contract.
-use Rattle.report.specs.Line.{unknownText}
-use Rattle.report.proofs.Chain.{begun, more, ended}
+-- `place_lines::place::unknown` meets its contract.
+use Rattle.place_lines.specs.Place.{unknownText}
+use Rattle.text.proofs.Chain.{begun, more, ended}
 use mathlib.Core.List.{append-assoc}
 use borrow.Author.Needs.{needs}
-use Rattle.report.proofs.line.unknown.Statement.{statement}
-use Rattle.report.proofs.line.unknown.Tie as tie
+use Rattle.place_lines.proofs.place.unknown.Statement.{statement}
+use Rattle.place_lines.proofs.place.unknown.Tie as tie
 
 low-requires : tie.Need-low-requires
 low-requires c κs = search needs

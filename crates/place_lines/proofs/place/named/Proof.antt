@@ -1,10 +1,10 @@
--- `report::line::named` meets its contract.
-use Rattle.report.specs.Line.{namedText}
-use Rattle.report.proofs.Chain.{begun, more, ended}
+-- `place_lines::place::named` meets its contract.
+use Rattle.place_lines.specs.Place.{namedText}
+use Rattle.text.proofs.Chain.{begun, more, ended}
 use mathlib.Core.List.{append-assoc}
 use borrow.Author.Needs.{needs}
-use Rattle.report.proofs.line.named.Statement.{statement}
-use Rattle.report.proofs.line.named.Tie as tie
+use Rattle.place_lines.proofs.place.named.Statement.{statement}
+use Rattle.place_lines.proofs.place.named.Tie as tie
 
 add-place-requires : tie.Need-add-place-requires
 add-place-requires c κs = search needs

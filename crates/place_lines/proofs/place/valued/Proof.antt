@@ -1,8 +1,8 @@
--- `report::line::valued` meets its contract.
-use Rattle.report.specs.Line.{valueText}
+-- `place_lines::place::valued` meets its contract.
+use Rattle.place_lines.specs.Place.{valueText}
 use borrow.Author.Needs.{needs}
-use Rattle.report.proofs.line.valued.Statement.{statement}
-use Rattle.report.proofs.line.valued.Tie as tie
+use Rattle.place_lines.proofs.place.valued.Statement.{statement}
+use Rattle.place_lines.proofs.place.valued.Tie as tie
 
 add-hex-requires : tie.Need-add-hex-requires
 add-hex-requires c κs = search needs

@@ -1,0 +1,3 @@
+-- What is told of a place.
+pub mod Words
+pub mod Place

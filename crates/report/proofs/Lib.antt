@@ -1,2 +1,0 @@
--- Laws on a text that grows piece by piece.
-pub mod Chain
