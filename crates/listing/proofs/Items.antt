@@ -7,7 +7,7 @@ use lib.ListN.{length, take, drop, drop-of-length-le}
 use borrow.Author.Tests.{eq-eqb, ne-eqb}
 use Rattle.numerals.specs.declared.number.Number.{Number}
 use Rattle.numerals.specs.declared.number.Number.the-variants.{Value, Wrong}
-use Rattle.listing.specs.Token.{leadingOf}
+use Rattle.tokens.specs.Token.{leadingOf}
 use Rattle.listing.specs.declared.line.Next.{Next}
 use Rattle.listing.specs.declared.line.Next.the-variants as next
 use Rattle.listing.specs.Line.{startOf, endOf, firstOf, restOf, blank, given, nextPlace}

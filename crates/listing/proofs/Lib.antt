@@ -1,5 +1,5 @@
--- Laws on the words of a line and on items.
+-- Laws on items, and on the words of a line.
 
-pub mod Words
+pub mod Nexts
 pub mod Items
 pub mod Splitting

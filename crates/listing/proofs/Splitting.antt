@@ -8,7 +8,7 @@ use lib.Dec.{eqb}
 use lib.ListN.{length, take, drop}
 use lib.Seq.{drop-drop}
 use borrow.Author.Tests.{eqb-true, eqb-false}
-use Rattle.listing.specs.Token.{beforeOf, isGap, leadingOf, onto, split, linesOf, kept, wordsOf}
+use Rattle.tokens.specs.Token.{beforeOf, isGap, leadingOf, onto, split, linesOf, kept, wordsOf}
 use Rattle.listing.specs.Line.{startOf, endOf, firstOf, restOf, blank}
 
 -- how many bytes stand before the first of a kind

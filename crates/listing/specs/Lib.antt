@@ -1,3 +1,2 @@
--- What a text says: numbers, places and words, and the text that is printed.
+-- What a line says, by its words.
 pub mod Line
-pub mod Token

@@ -14,7 +14,7 @@ use Rattle.listing.specs.declared.line.Next.{Next}
 use Rattle.listing.specs.declared.line.Next.the-variants as next
 use Rattle.numerals.specs.Number.{hexOf, decimalOf, valueOf}
 use Rattle.place_names.specs.Place.{placeOf, same, width}
-use Rattle.listing.specs.Token.{leadingOf}
+use Rattle.tokens.specs.Token.{leadingOf}
 
 -- where a line's first word starts and ends, the word, and what follows it
 abbrev pub startOf : List ℕ → ℕ

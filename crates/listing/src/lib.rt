@@ -1,3 +1,2 @@
-// The text of a list: numbers, places and lines, read from bytes and printed into a text of limited length.
+// What a line of a list says.
 pub mod line;
-pub mod token;

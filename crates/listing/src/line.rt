@@ -3,7 +3,6 @@ ghost use mathlib.Core.Path.{_≡_};
 ghost use Prim.Native.Nat.{ℕ, _≤_, _<_};
 ghost use lib.ListN.{length, drop};
 ghost use Rattle.listing.specs.Line.{itemOf, endedOf, setOf, setTo, windowOf, windowFrom, unknownOf, nextPlace};
-use super::token::first;
 use numerals::number::Number;
 use numerals::number::decimal_of;
 use numerals::number::hex_of;
@@ -11,6 +10,7 @@ use numerals::number::value_of;
 use place_names::place::CONTROL;
 use place_names::place::fits;
 use place_names::place::place_of;
+use tokens::token::first;
 
 // What a line should have had.
 pub enum Expected {

@@ -10,7 +10,7 @@ use Rattle.listing.specs.declared.line.Item as listed
 use Rattle.listing.specs.declared.line.Item.the-variants as item
 use Rattle.listing.specs.declared.line.Expected.{Expected}
 use Rattle.listing.specs.Line.{itemOf}
-use Rattle.listing.specs.Token.{beforeOf, contentOf, linesOf, split, wordsOf}
+use Rattle.tokens.specs.Token.{beforeOf, contentOf, linesOf, split, wordsOf}
 use Rattle.numerals.proofs.Reading.{rest}
 use Rattle.listing.proofs.Splitting.{lines-one}
 use Rattle.script.specs.declared.item.Layout.{Layout}

@@ -13,7 +13,7 @@ use Rattle.listing.specs.declared.line.Next.the-variants as next
 use Rattle.listing.specs.declared.line.Expected.the-variants as expected
 use Rattle.listing.specs.Line.{endOf, firstOf, restOf, blank, given, nextPlace}
 use Rattle.place_names.specs.Place.{placeOf}
-use Rattle.listing.specs.Token.{wordsOf}
+use Rattle.tokens.specs.Token.{wordsOf}
 use Rattle.listing.proofs.Splitting.{words-none, words-one}
 use Rattle.script.specs.declared.item.Layout.{Layout}
 use Rattle.script.specs.declared.item.Step.the-variants as step

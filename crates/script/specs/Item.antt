@@ -12,7 +12,7 @@ use Rattle.listing.specs.declared.line.Item.the-variants as item
 use Rattle.listing.specs.declared.line.Expected.the-variants as expected
 use Rattle.listing.specs.Line.{given, itemOf}
 use Rattle.place_names.specs.Place.{placeOf, width}
-use Rattle.listing.specs.Token.{wordsOf}
+use Rattle.tokens.specs.Token.{wordsOf}
 use Rattle.script.specs.declared.item.Layout.{Layout}
 use Rattle.script.specs.declared.item.Step.{Step}
 use Rattle.script.specs.declared.item.Step.the-variants.{On, Wrong}

@@ -3,7 +3,7 @@ use Prim.Native.Nat.{ℕ, suc}
 use mathlib.Core.Bool.{false}
 use mathlib.Core.List.{List, [], _∷_}
 use lib.ListN.{take}
-use Rattle.listing.specs.Token.{contentOf, linesOf}
+use Rattle.tokens.specs.Token.{contentOf, linesOf}
 use Rattle.script.specs.declared.item.Layout.{Layout}
 use Rattle.script.specs.declared.item.Step.{Step}
 use Rattle.script.specs.declared.item.Step.the-variants as step

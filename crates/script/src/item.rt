@@ -6,7 +6,7 @@ ghost use lib.ListN.{drop};
 ghost use Rattle.machine.specs.Place.{place};
 ghost use Rattle.layout.specs.State.{inPosition};
 ghost use Rattle.place_names.specs.Place.{width};
-ghost use Rattle.listing.specs.Token.{wordsOf};
+ghost use Rattle.tokens.specs.Token.{wordsOf};
 ghost use Rattle.script.specs.Item.{buffers, outcome, isPlace, store, putAt, unknownAt, wordOutcome, setOutcome, unknownOutcome, windowStep, lineOutcome};
 use super::mistake::Mistake;
 use limits::limit::window_limit;

@@ -6,9 +6,9 @@ use super::item::Layout;
 use super::item::Step;
 use super::item::take_line;
 use super::mistake::Mistake;
-use listing::token::before;
-use listing::token::content;
 use machine::place::WINDOW;
+use tokens::token::before;
+use tokens::token::content;
 
 pub enum Taken {
     All(Layout),

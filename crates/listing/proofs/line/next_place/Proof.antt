@@ -1,8 +1,8 @@
 -- `listing::line::next_place` meets its contract.
-use Rattle.listing.proofs.Words.{part-end}
+use Rattle.tokens.proofs.Words.{part-end}
 use Rattle.listing.proofs.Items.{next-none, next-blank, next-wrong, next-value}
 use denote.Ref.{now}
-use Rattle.listing.proofs.Words.{end-none, mistake-none, place-from}
+use Rattle.listing.proofs.Nexts.{end-none, mistake-none, place-from}
 use native.Mathlib.Omega.{arith}
 use borrow.Author.Needs.{needs}
 use Rattle.listing.proofs.line.next_place.Statement.{statement}

@@ -2,7 +2,7 @@
 use borrow.Author.Tests.{not-true, not-false}
 use Rattle.script.proofs.Unknown.{unknown-end, unknown-mistake, unknown-beyond, unknown-on}
 use Rattle.script.specs.Item.{buffers, unknownOutcome}
-use Rattle.listing.specs.Token.{wordsOf}
+use Rattle.tokens.specs.Token.{wordsOf}
 use borrow.Author.Needs.{needs}
 use denote.Ref.{now}
 use mathlib.Core.Path.{_≡_, refl, sym, _∙_, ap}

@@ -2,7 +2,7 @@
 use Rattle.script.proofs.Lines.{lines-end, lines-wrong, lines-next}
 use Rattle.script.specs.Text.{linesReading, textReading}
 use Rattle.script.specs.Item.{buffers}
-use Rattle.listing.specs.Token.{linesOf}
+use Rattle.tokens.specs.Token.{linesOf}
 use denote.Ref.{now}
 use borrow.Author.Needs.{needs}
 use native.Mathlib.Omega.{arith}

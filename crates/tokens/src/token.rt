@@ -3,7 +3,7 @@ ghost use mathlib.Core.Path.{_≡_};
 ghost use mathlib.Core.Bool.{true, false};
 ghost use Prim.Native.Nat.{_+_, _≤_};
 ghost use lib.ListN.{length, drop};
-ghost use Rattle.listing.specs.Token.{beforeOf, contentOf, isGap, leadingOf};
+ghost use Rattle.tokens.specs.Token.{beforeOf, contentOf, isGap, leadingOf};
 
 // A word of a line: from start up to end. Both are the same where there is none.
 pub struct Token {

@@ -9,8 +9,7 @@ use lib.ListN.{length, getD, take, drop, length-drop, length-take, drop-of-lengt
 use lib.Seq.{drop-cons}
 use borrow.Author.Tests.{eq-eqb, ne-eqb, lt-ltb, le-ltb}
 use Rattle.numerals.proofs.Reading.{rest}
-use Rattle.listing.specs.declared.line.Next.the-variants.{Place, End, Mistake}
-use Rattle.listing.specs.Token.{beforeOf, contentOf, isGap, leadingOf}
+use Rattle.tokens.specs.Token.{beforeOf, contentOf, isGap, leadingOf}
 
 module _ (b : ℕ) (t : List ℕ) (i : ℕ) where
   pub before-here : i < length t → getD t i 0 ≡ b → i ≡ i + beforeOf b (drop i t)
@@ -64,14 +63,3 @@ part-end t a n h k = omega (arith, length-take (length t - a) (drop a t), length
 
 pub part-word : (t : List ℕ) (a n : ℕ) → n ≡ leadingOf false (take (length t - a) (drop a t)) → a + n ≡ a + leadingOf false (drop a t)
 part-word t a n e = ap (λ (k : ℕ). a + k) (e ∙ ap (leadingOf false) (rest t a))
-
--- no place is named
-pub end-none : (p n : ℕ) → End ≡ Place p n → ⊥
-end-none p n e = let z : _≡_ {A = ℕ} 0 1 = cc in omega arith
-
-pub mistake-none : (p n : ℕ) → Mistake ≡ Place p n → ⊥
-mistake-none p n e = let z : _≡_ {A = ℕ} 0 1 = cc in omega arith
-
--- the place is named at its end
-pub place-from : (q p m n : ℕ) → Place q m ≡ Place p n → m ≡ n
-place-from q p m n e = cc

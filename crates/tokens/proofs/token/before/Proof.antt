@@ -1,13 +1,13 @@
--- `listing::token::before` meets its contract.
-use Rattle.listing.proofs.Words.{before-here, before-on, before-end}
-use Rattle.listing.specs.Token.{beforeOf}
+-- `tokens::token::before` meets its contract.
+use Rattle.tokens.proofs.Words.{before-here, before-on, before-end}
+use Rattle.tokens.specs.Token.{beforeOf}
 use native.Mathlib.Nat.{zero-add}
 use Prim.Native.Nat.{_+_, _-_, _≤_}
 use lib.ListN.{length, drop}
 use mathlib.Core.Path.{_≡_, _∙_}
 use native.Mathlib.Omega.{arith}
-use Rattle.listing.proofs.token.before.Statement.{statement}
-use Rattle.listing.proofs.token.before.Tie as tie
+use Rattle.tokens.proofs.token.before.Statement.{statement}
+use Rattle.tokens.proofs.token.before.Tie as tie
 
 abbrev Inv-loop : tie.InvT-loop
 Inv-loop text b i₀ i = (i ≤ length text) × (i + beforeOf b (drop i text) ≡ beforeOf b text)

@@ -1,7 +1,7 @@
--- `listing::token::gap` meets its contract.
+-- `tokens::token::gap` meets its contract.
 use borrow.Author.Tests.{eq-eqb, ne-eqb}
-use Rattle.listing.proofs.token.gap.Statement.{statement}
-use Rattle.listing.proofs.token.gap.Tie as tie
+use Rattle.tokens.proofs.token.gap.Statement.{statement}
+use Rattle.tokens.proofs.token.gap.Tie as tie
 
 returns : tie.Need-returns
 returns c = rw (eq-eqb _ _ (c .if1 .taken))

@@ -1,10 +1,10 @@
--- `listing::token::content` meets its contract.
-use Rattle.listing.proofs.Words.{content-comment, content-none, content-return, content-whole}
+-- `tokens::token::content` meets its contract.
+use Rattle.tokens.proofs.Words.{content-comment, content-none, content-return, content-whole}
 use denote.Ref.{now}
 use native.Mathlib.Omega.{arith}
 use borrow.Author.Needs.{needs}
-use Rattle.listing.proofs.token.content.Statement.{statement}
-use Rattle.listing.proofs.token.content.Tie as tie
+use Rattle.tokens.proofs.token.content.Statement.{statement}
+use Rattle.tokens.proofs.token.content.Tie as tie
 
 before-requires : tie.Need-before-requires
 before-requires c κs = search needs

@@ -1,16 +1,16 @@
--- `listing::token::leading` meets its contract.
+-- `tokens::token::leading` meets its contract.
 use mathlib.Core.Bool.{Bool·beq}
 use borrow.Author.Tests.{not-true, not-false}
-use Rattle.listing.proofs.Words.{leading-here, leading-on, leading-end}
-use Rattle.listing.specs.Token.{leadingOf}
+use Rattle.tokens.proofs.Words.{leading-here, leading-on, leading-end}
+use Rattle.tokens.specs.Token.{leadingOf}
 use native.Mathlib.Nat.{zero-add}
 use Prim.Native.Nat.{_+_, _-_, _≤_}
 use lib.ListN.{length, drop}
 use mathlib.Core.Path.{_≡_, _∙_}
 use borrow.Author.Needs.{needs}
 use native.Mathlib.Omega.{arith}
-use Rattle.listing.proofs.token.leading.Statement.{statement}
-use Rattle.listing.proofs.token.leading.Tie as tie
+use Rattle.tokens.proofs.token.leading.Statement.{statement}
+use Rattle.tokens.proofs.token.leading.Tie as tie
 
 abbrev Inv-loop : tie.InvT-loop
 Inv-loop line gaps i₀ i = (i ≤ length line) × (i + leadingOf gaps (drop i line) ≡ leadingOf gaps line)

@@ -1,10 +1,10 @@
--- `listing::token::first` meets its contract.
-use Rattle.listing.proofs.Words.{part-end, part-word}
+-- `tokens::token::first` meets its contract.
+use Rattle.tokens.proofs.Words.{part-end, part-word}
 use denote.Ref.{now}
 use native.Mathlib.Omega.{arith}
 use borrow.Author.Needs.{needs}
-use Rattle.listing.proofs.token.first.Statement.{statement}
-use Rattle.listing.proofs.token.first.Tie as tie
+use Rattle.tokens.proofs.token.first.Statement.{statement}
+use Rattle.tokens.proofs.token.first.Tie as tie
 
 leading-requires : tie.Need-leading-requires
 leading-requires c κs = search needs

@@ -1,0 +1,2 @@
+-- Laws on the words of a line.
+pub mod Words
