@@ -23,7 +23,7 @@ use Rattle.transfers.specs.Transfer.{transferTree, transferOf, transferBy, syst
 use Rattle.memory.specs.LoadStore.{accessTree, loadStoreTree}
 use Rattle.limits.specs.Limit.{runLimit}
 use Rattle.run_word.specs.Word.{foreignWord, classTree, conditioned, meaning}
-use Rattle.run.specs.declared.Ran.{Ran}
+use Rattle.progress.specs.declared.Ran.{Ran}
 use Rattle.watch.specs.declared.Watched.{Watched}
 use Rattle.watch.specs.Watch.{limitOf, watchReply}
 use Rattle.limits.proofs.Limits.{run-within, list-within}

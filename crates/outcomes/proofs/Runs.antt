@@ -9,7 +9,7 @@ use borrow.Author.Tests.{not-true, not-false}
 use Rattle.machine.specs.declared.Machine.{Machine}
 use Rattle.machine.specs.Place.{State, state}
 use Rattle.meaning.specs.Stop.{report}
-use Rattle.run.specs.declared.Ran.{Ran}
+use Rattle.progress.specs.declared.Ran.{Ran}
 use Rattle.run_word.specs.Stop.{stopOf}
 use Rattle.run.specs.Run.{Reply, answered}
 use Rattle.layout.specs.State.{encode, decode}

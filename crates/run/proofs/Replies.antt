@@ -11,7 +11,7 @@ use Rattle.machine.specs.Place.{State, state}
 use Rattle.meaning.specs.Stop.{report}
 use Rattle.meaning.specs.Run.{Ended, ended, run}
 use Rattle.run_word.specs.declared.Stop.{Stop}
-use Rattle.run.specs.declared.Ran.{Ran}
+use Rattle.progress.specs.declared.Ran.{Ran}
 use Rattle.limits.specs.Limit.{runLimit}
 use Rattle.run_word.specs.Word.{meaning}
 use Rattle.run_word.specs.Stop.{stopOf}

@@ -8,7 +8,7 @@ use Rattle.machine.specs.Place.{State, state}
 use Rattle.meaning.specs.Stop as S
 use Rattle.meaning.specs.Stop.{Report, report}
 use Rattle.meaning.specs.Run.{Ended, run}
-use Rattle.run.specs.declared.Ran.{Ran}
+use Rattle.progress.specs.declared.Ran.{Ran}
 use Rattle.limits.specs.Limit.{runLimit}
 use Rattle.run_word.specs.Stop.{stopOf}
 use Rattle.run_word.specs.Word.{meaning}

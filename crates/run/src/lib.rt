@@ -1,7 +1,4 @@
 // The plain run over a list of instruction words.
-pub mod progress;
-pub mod rest;
-
 ghost use mathlib.Core.Path.{_≡_};
 ghost use mathlib.Core.Bool.{false};
 ghost use Rattle.machine.specs.Place.{state};
@@ -11,17 +8,11 @@ ghost use Rattle.run.specs.Run.{answered, reply, runReply};
 use limits::limit::run_limit;
 use machine::Machine;
 use progress::Progress;
+use progress::Ran;
 use run_word::Next;
 use run_word::Stop;
 use run_word::word::advance;
 use run_word::word::execute;
-
-// The stop, how many words were counted, and the machine handed back.
-pub struct Ran {
-    pub stop: Stop,
-    pub count: usize,
-    pub machine: Machine,
-}
 
 // Runs a list of words over a window from a base on.
 pub fn run(machine: Machine, window: &mut [u32], base: u32, list: &[u32]) -> Ran

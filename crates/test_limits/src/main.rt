@@ -49,7 +49,7 @@ fn ran(name: &[u8], thumb: bool, window: &mut [u32], base: u32, list: &[u32]) {
     let answer = run::run(machine, window, base, list);
     let count = answer.count;
     let stop = answer.stop;
-    let left = run::rest::rest(list, count);
+    let left = progress::rest::rest(list, count);
     line(name, kind(stop), count, left.len());
 }
 
@@ -128,9 +128,9 @@ fn stops() {
 // A count at the list's end and past it.
 fn past() {
     let list = [HARMLESS; 3];
-    let end = run::rest::rest(&list, 3);
+    let end = progress::rest::rest(&list, 3);
     line(b"rest from 3 of 3", 0, 3, end.len());
-    let after = run::rest::rest(&list, 4);
+    let after = progress::rest::rest(&list, 4);
     line(b"rest from 4 of 3", 0, 4, after.len());
 }
 

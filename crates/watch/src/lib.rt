@@ -12,7 +12,7 @@ use limits::limit::watch_limit;
 use machine::Machine;
 use meaning::Known;
 use meaning::Marks;
-use run::progress::Progress;
+use progress::Progress;
 use run_word::Next;
 use run_word::Stop;
 use run_word::word::advance;

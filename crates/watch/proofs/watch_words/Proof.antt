@@ -15,7 +15,7 @@ use lib.ListN.{length, drop}
 use Prim.Native.Nat.{_≤_, _-_}
 use Rattle.watch.proofs.watch_words.Reads as reads
 use Rattle.watch.proofs.watch_words.Lts as lts
-use Rattle.run.proofs.progress.Progress.new.Reads as new-reads
+use Rattle.progress.proofs.Progress.new.Reads as new-reads
 use Rattle.run_word.proofs.word.advance.Reads as advance-reads
 use Rattle.watch.proofs.ended.Reads as ended-reads
 use Rattle.watch.proofs.known_of.Reads as known-of-reads

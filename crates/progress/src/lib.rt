@@ -1,12 +1,21 @@
-// The state of a run between two words, in ARM state: the machine in its parts, which are lent to the words.
+// How far a run is: its state between two words, what it hands back, and the words not yet run.
+pub mod rest;
+
 ghost use mathlib.Core.Path.{_≡_};
 ghost use mathlib.Core.Bool.{false};
 ghost use Rattle.machine.specs.Machine.{assembled, controlsOf};
-use super::Ran;
 use machine::Controls;
 use machine::Machine;
 use run_word::Stop;
 
+// The stop, how many words were counted, and the machine handed back.
+pub struct Ran {
+    pub stop: Stop,
+    pub count: usize,
+    pub machine: Machine,
+}
+
+// The state of a run between two words, in ARM state: the machine in its parts, which are lent to the words.
 pub struct Progress {
     pub s: [u32; 32],
     pub r: [u32; 16],

@@ -1,4 +1,4 @@
--- `run::rest::rest` meets its contract.
+-- `progress::rest::rest` meets its contract.
 use lib.Seq.{take-length, take-nil, drop-length}
 use lib.ListN.{length, take, drop, length-drop, drop-of-length-le}
 use native.Mathlib.Nat.{min-eq-left, min-eq-right}
@@ -6,8 +6,8 @@ use native.Mathlib.Omega.{arith}
 use Prim.Native.Nat.{ℕ, _≤_, _-_}
 use mathlib.Core.Path.{refl, ap, sym, _∙_}
 use borrow.Author.Needs.{needs}
-use Rattle.run.proofs.rest.rest.Statement.{statement}
-use Rattle.run.proofs.rest.rest.Tie as tie
+use Rattle.progress.proofs.rest.rest.Statement.{statement}
+use Rattle.progress.proofs.rest.rest.Tie as tie
 
 mul-result : tie.Need-mul-result
 mul-result c = search needs
