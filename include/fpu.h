@@ -14,9 +14,8 @@
 extern "C" {
 #endif
 
-/* Lengths, in words; of marks in bytes. */
+/* Lengths, in words. */
 #define FPU_STATE_WORDS 52
-#define FPU_MARKS_BYTES 52
 #define FPU_ANSWER_WORDS 4
 #define FPU_WINDOW_MOST_WORDS 16384
 #define FPU_LIST_MOST_WORDS 4096
@@ -29,6 +28,10 @@ extern "C" {
 #define FPU_PLACE_FPSCR_CONTROL 49 /* FPSCR bits 27:0 */
 #define FPU_PLACE_FPEXC 50
 #define FPU_PLACE_NZCV 51 /* the condition flags, in bits 31:28 */
+
+/* Marks of the places 0 to 51: bit p is set where place p is known. The bits above are ignored. */
+#define FPU_MARK(place) ((uint64_t)1 << (place))
+#define FPU_MARKS_ALL (FPU_MARK(FPU_STATE_WORDS) - 1)
 
 /* An answer's words; those that a kind does not have are 0, and so is the count of a single call. */
 #define FPU_ANSWER_COUNT 0
@@ -54,8 +57,8 @@ extern "C" {
 #define FPU_REFUSED_SHARE 115            /* of fpu_grant only: a share above its limit */
 #define FPU_REFUSED_SHARES 116           /* of fpu_grant only: shares that add up to more than the period */
 
-/* Tested first, touching nothing: a state, marks or an answer of another length, a bit of the state outside a place's own, a mark of
- * places 0 to 51 or a thumb that is neither 0 nor 1; lists of unequal lengths. */
+/* Tested first, touching nothing: a state or an answer of another length, a bit of the state outside a place's own, a thumb that is neither 0
+ * nor 1; lists of unequal lengths. */
 #define FPU_INVALID_ARGUMENT 255
 
 /* Makes the state a new machine's: all zero but FPEXC, 0x40000000. Gives FPU_FINISHED, or FPU_INVALID_ARGUMENT where it has not 52 words. */
@@ -80,14 +83,14 @@ uint32_t fpu_coprocessor_load_store(uint32_t *state, size_t state_words, uint32_
 uint32_t fpu_run(uint32_t *state, size_t state_words, uint32_t *window, size_t window_words, uint32_t base, uint32_t thumb,
                  const uint32_t *list, size_t list_words, uint32_t *answer, size_t answer_words);
 
-/* The same run, watched: `marks` says of each of the places 0 to 51 in order, and `window_marks` of each word of the window, whether
- * it is known (1) or not (0). It gives FPU_HANGS, with the place, before a word whose outcome would hang on an unknown place, and
- * leaves the marks that hold at its end. No unknown place can show in the result, the answer, the marks, or a place that is known at
- * the end. With more marks 1 it counts at least as many words, and after as many words every mark that was 1 is 1. Else it gives what
- * fpu_run gives, or refusal 106 or 107. */
-uint32_t fpu_watch(uint32_t *state, size_t state_words, uint8_t *marks, size_t marks_bytes, uint32_t *window, size_t window_words,
-                   uint8_t *window_marks, size_t window_marks_bytes, uint32_t base, uint32_t thumb, const uint32_t *list,
-                   size_t list_words, uint32_t *answer, size_t answer_words);
+/* The same run, watched: bit p of `marks` says of place p, 0 to 51, and `window_marks` of each word of the window, whether it is known (1) or
+ * not (0). It gives FPU_HANGS, with the place, before a word whose outcome would hang on an unknown place, and leaves the marks that hold
+ * at its end. No unknown place can show in the result, the answer, the marks, or a place that is known at the end. With more marks 1 it
+ * counts at least as many words, and after as many words every mark that was 1 is 1. Bits 52 to 63 of `marks` change nothing and are 0
+ * afterwards; a refused run leaves the word as it came. Else it gives what fpu_run gives, or refusal 106 or 107. */
+uint32_t fpu_watch(uint32_t *state, size_t state_words, uint64_t *marks, uint32_t *window, size_t window_words, uint8_t *window_marks,
+                   size_t window_marks_bytes, uint32_t base, uint32_t thumb, const uint32_t *list, size_t list_words,
+                   uint32_t *answer, size_t answer_words);
 
 /* Whether an instruction of a condition (its low four bits) is executed under the flags of place 51: 1 or 0, or FPU_INVALID_ARGUMENT where
  * another bit of nzcv is set. */

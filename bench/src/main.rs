@@ -5,7 +5,7 @@ mod lists;
 
 use fpu::raw;
 use lists::{Mix, BASE, UNKNOWN, WINDOW};
-use oracle::{Cpu, STATE};
+use oracle::Cpu;
 use std::hint::black_box;
 use std::time::Instant;
 
@@ -26,10 +26,8 @@ fn clocked(words: usize, mut once: impl FnMut()) -> f64 {
     start.elapsed().as_secs_f64() * 1e9 / (AT_ONCE * words) as f64
 }
 
-fn marks() -> [u8; STATE] {
-    let mut marks = [1; STATE];
-    marks[UNKNOWN] = 0;
-    marks
+fn marks() -> u64 {
+    fpu::MARKS_ALL & !(1 << UNKNOWN)
 }
 
 fn best(old: &mut f64, new: f64) {

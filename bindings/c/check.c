@@ -11,8 +11,7 @@ enum call { DATA_PROCESSING, COPROCESSOR_REGISTER, COPROCESSOR_LOAD_STORE, RUN, 
 struct passed {
     uint32_t state[FPU_STATE_WORDS + 1];
     size_t state_words;
-    uint8_t marks[FPU_MARKS_BYTES + 1];
-    size_t marks_bytes;
+    uint64_t marks[2];
     uint32_t window[FPU_WINDOW_MOST_WORDS + 1];
     size_t window_words;
     uint8_t window_marks[FPU_WINDOW_MOST_WORDS + 1];
@@ -60,8 +59,8 @@ static void fresh(const char *name)
     p.state_words = FPU_STATE_WORDS;
     p.state[FPU_STATE_WORDS] = 0x5A5A5A5A;
     result(fpu_new(p.state, p.state_words), FPU_FINISHED);
-    p.marks_bytes = FPU_MARKS_BYTES;
-    memset(p.marks, 1, sizeof p.marks);
+    p.marks[0] = FPU_MARKS_ALL;
+    p.marks[1] = 0x5A5A5A5A5A5A5A5A;
     p.window_words = p.window_marks_bytes = 4;
     memset(p.window_marks, 1, sizeof p.window_marks);
     for (uint32_t i = 0; i < FPU_WINDOW_MOST_WORDS + 1; i++)
@@ -93,8 +92,8 @@ static uint32_t made(enum call call)
         return fpu_run(p.state, p.state_words, p.window, p.window_words, p.base, p.thumb, p.list, p.list_words, p.answer,
                        p.answer_words);
     default:
-        return fpu_watch(p.state, p.state_words, p.marks, p.marks_bytes, p.window, p.window_words, p.window_marks,
-                         p.window_marks_bytes, p.base, p.thumb, p.list, p.list_words, p.answer, p.answer_words);
+        return fpu_watch(p.state, p.state_words, p.marks, p.window, p.window_words, p.window_marks, p.window_marks_bytes, p.base,
+                         p.thumb, p.list, p.list_words, p.answer, p.answer_words);
     }
 }
 
@@ -261,10 +260,10 @@ static void runs(void)
 
     fresh("a watched run that hangs");
     list(LIST, 4);
-    p.marks[0] = 0;
+    p.marks[0] &= ~FPU_MARK(FPU_PLACE_S0);
     result(made(WATCH), FPU_HANGS);
     answer(3, FPU_PLACE_NZCV, 0, 0);
-    given.marks[FPU_PLACE_FPSCR_FLAGS] = given.marks[FPU_PLACE_NZCV] = 0;
+    given.marks[0] &= ~(FPU_MARK(FPU_PLACE_FPSCR_FLAGS) | FPU_MARK(FPU_PLACE_NZCV));
     changed(FPU_PLACE_R0 + 15, 12);
     changed(FPU_PLACE_FPSCR_FLAGS, 0x60000000);
     changed(FPU_PLACE_NZCV, 0x60000000);
@@ -277,10 +276,19 @@ static void runs(void)
     p.window_marks[3] = 0;
     result(made(WATCH), FPU_FINISHED);
     answer(1, 0, 0, 0);
-    given.marks[0] = 0;
+    given.marks[0] &= ~FPU_MARK(FPU_PLACE_S0);
     changed(0, 10);
     changed(FPU_PLACE_R0 + 15, 4);
     unchanged();
+
+    for (int place = 0; place < FPU_STATE_WORDS; place++) {
+        fresh("a place that is unknown, with bits above the last place");
+        p.marks[0] = FPU_MARKS_ALL ^ FPU_MARK(place) ^ 0xA5B0000000000000;
+        result(made(WATCH), FPU_FINISHED);
+        answer(0, 0, 0, 0);
+        given.marks[0] = FPU_MARKS_ALL ^ FPU_MARK(place);
+        unchanged();
+    }
 }
 
 static void refusals(void)
@@ -325,23 +333,26 @@ static void refusals(void)
     list(LIST, 4);
     p.window_marks_bytes = 3;
     p.window_marks[1] = 2;
+    p.marks[0] ^= 0xA5B0000000000000;
     refused(WATCH, 6);
 
     fresh("a window mark of 2");
     list(LIST, 4);
     p.window_marks[3] = 2;
+    p.marks[0] = ~(uint64_t)0;
     refused(WATCH, 7);
 }
 
 static void invalid_arguments(void)
 {
     for (int call = 0; call < CALLS; call++) {
-        for (int sort = 0; sort < (call == WATCH ? 11 : 8); sort++) {
+        for (int sort = 0; sort < 8; sort++) {
             /* every word here is one that a call refuses or acts upon */
             fresh("an invalid argument");
             p.word = call == COPROCESSOR_REGISTER ? TO_R15 : call == DATA_PROCESSING ? ADD : LOAD;
             p.state[1] = p.state[2] = 0x3F800000;
             p.base = 2;
+            p.marks[0] ^= 0xA5B0000000000000;
             list(LIST, 4);
             switch (sort) {
             case 0: p.state_words--; break;
@@ -351,10 +362,7 @@ static void invalid_arguments(void)
             case 4: p.thumb = 2; break;
             case 5: p.state[FPU_PLACE_FPSCR_FLAGS] = 0x08000000; break;
             case 6: p.state[FPU_PLACE_FPSCR_CONTROL] = 0x10000000; break;
-            case 7: p.state[FPU_PLACE_NZCV] = 0x00000001; break;
-            case 8: p.marks_bytes--; break;
-            case 9: p.marks_bytes++; break;
-            default: p.marks[51] = 2; break;
+            default: p.state[FPU_PLACE_NZCV] = 0x00000001; break;
             }
             invalid(call);
         }

@@ -3,7 +3,8 @@
 use std::os::raw::c_uint;
 
 pub const STATE_WORDS: usize = 52;
-pub const MARKS_BYTES: usize = 52;
+/// the marks of a machine of which every place is known: bit p is that of place p.
+pub const MARKS_ALL: u64 = (1 << STATE_WORDS) - 1;
 pub const ANSWER_WORDS: usize = 4;
 
 extern "C" {
@@ -36,8 +37,7 @@ extern "C" {
     fn fpu_watch(
         state: *mut u32,
         state_words: usize,
-        marks: *mut u8,
-        marks_bytes: usize,
+        marks: *mut u64,
         window: *mut u32,
         window_words: usize,
         window_marks: *mut u8,
@@ -113,7 +113,7 @@ pub mod raw {
     #[allow(clippy::too_many_arguments)]
     pub fn watch(
         state: &mut [u32],
-        marks: &mut [u8],
+        marks: &mut u64,
         window: &mut [u32],
         window_marks: &mut [u8],
         base: u32,
@@ -125,8 +125,7 @@ pub mod raw {
             super::fpu_watch(
                 state.as_mut_ptr(),
                 state.len(),
-                marks.as_mut_ptr(),
-                marks.len(),
+                marks,
                 window.as_mut_ptr(),
                 window.len(),
                 window_marks.as_mut_ptr(),
@@ -259,10 +258,11 @@ impl Machine {
         ran(raw::run(&mut self.state, window, base, self.thumb as u32, list, &mut answer), answer)
     }
 
-    /// marks are 1 where a place, or a word of the window, is known, and else 0.
+    /// bit p of marks is 1 where place p is known, and a window mark where its word is, else 0. Bits 52 to 63 change nothing and are 0 after a
+    /// run that is not refused.
     pub fn watch(
         &mut self,
-        marks: &mut [u8; MARKS_BYTES],
+        marks: &mut u64,
         window: &mut [u32],
         window_marks: &mut [u8],
         base: u32,

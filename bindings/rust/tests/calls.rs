@@ -1,6 +1,6 @@
 //! A few calls by the wrapper, and what 255 does.
 
-use fpu::{grant, raw, Exit, InvalidArgument, Machine, Ran, Routine, Stop, TurnedAway};
+use fpu::{grant, raw, Exit, InvalidArgument, Machine, Ran, Routine, Stop, TurnedAway, MARKS_ALL};
 
 #[test]
 fn a_new_machine() {
@@ -109,18 +109,15 @@ fn a_run() {
 #[test]
 fn a_watched_run() {
     let mut m = Machine::new();
-    let mut marks = [1; 52];
-    marks[0] = 0;
+    let mut marks = MARKS_ALL - 1 + (0xFFF << 52);
     assert_eq!(m.watch(&mut marks, &mut [], &mut [], 0, &LIST), Ok(Ran { stop: Stop::Hangs(51), count: 3 }));
-    assert!(marks.iter().enumerate().all(|(i, &k)| (k == 0) == [0, 48, 51].contains(&i)));
-    assert_eq!(m.state[47], 12);
+    assert_eq!(marks, MARKS_ALL & !(1 | 1 << 48 | 1 << 51));
+
+    marks |= 0xA5B << 52;
     let (before, kept) = (m, marks);
     assert_eq!(m.watch(&mut marks, &mut [5], &mut [], 0, &LIST), Ok(Ran { stop: Stop::Refused(6), count: 0 }));
     assert_eq!(m.watch(&mut marks, &mut [5], &mut [2], 0, &LIST), Ok(Ran { stop: Stop::Refused(7), count: 0 }));
     assert_eq!((m, marks), (before, kept));
-    marks[3] = 2;
-    assert_eq!(m.watch(&mut marks, &mut [5], &mut [2], 0, &LIST), Err(InvalidArgument));
-    assert_eq!((m, marks[3]), (before, 2));
 }
 
 #[test]

@@ -10,21 +10,18 @@ ghost use Rattle.transfers.specs.Transfer.{transferTree};
 ghost use Rattle.vfp.specs.Call.{reply, loadStoreReply};
 ghost use Rattle.run.specs.Run.{runReply};
 ghost use Rattle.outcomes.specs.Outcome.{outcome, called, ran, validCall, renewed, checked};
-ghost use Rattle.outcomes.specs.WatchOutcome.{watchOutcome, validWatch};
+ghost use Rattle.outcomes.specs.WatchOutcome.{watchOutcome};
 ghost use Rattle.outcomes.specs.WatchPromise.{WatchPromise};
 use answer::report_exit;
 use answer::report_stop;
 use bits::psr::Psr;
-use layout::marks::decode_marks;
-use layout::marks::encode_marks;
-use layout::marks::is_valid_marks;
 use layout::state::decode;
 use layout::state::encode;
 use layout::state::is_valid;
 use machine::Machine;
 use machine::place;
 
-// Nothing was touched: a length, a bit of the state, a mark or thumb is not as it has to be.
+// Nothing was touched: a length, a bit of the state or thumb is not as it has to be.
 const INVALID_ARGUMENT: u32 = 255;
 
 // Whether a call's arguments are valid.
@@ -38,16 +35,6 @@ fn is_valid_call(state: &[u32], thumb: u32, words: usize) -> bool
         return false;
     }
     is_valid(state)
-}
-
-// And with marks.
-fn is_valid_watch(state: &[u32], marks: &[u8], thumb: u32, words: usize) -> bool
-    ensures { λ r. ⌜ r ≡ validWatch (now (state .entry)) (now (marks .entry)) thumb words ⌝ }
-{
-    if !is_valid_marks(marks) {
-        return false;
-    }
-    is_valid_call(state, thumb, words)
 }
 
 // A new machine's state.
@@ -147,11 +134,11 @@ pub extern "C" fn fpu_run(
     report_stop(stop, count, answer)
 }
 
-// The watched run of a list of words.
+// The watched run of a list of words. The marks are one word, bit p for place p.
 #[no_mangle]
 pub extern "C" fn fpu_watch(
     state: &mut [u32],
-    marks: &mut [u8],
+    marks: &mut u64,
     window: &mut [u32],
     window_marks: &mut [u8],
     base: u32,
@@ -161,17 +148,15 @@ pub extern "C" fn fpu_watch(
 ) -> u32
     ensures { λ r. ⌜ WatchPromise base (now (list .entry)) (now (state .entry)) (now (marks .entry)) (now (window .entry)) (now («window_marks» .entry)) thumb (now (answer .entry)) (watchOutcome r (now (state .exit)) (now (marks .exit)) (now (window .exit)) (now («window_marks» .exit)) (now (answer .exit))) ⌝ }
 {
-    if !is_valid_watch(state, marks, thumb, answer.len()) {
+    if !is_valid_call(state, thumb, answer.len()) {
         return INVALID_ARGUMENT;
     }
     let machine = decode(state, thumb == 1);
-    let known = decode_marks(marks);
-    let done = watch::watch(machine, known, window, window_marks, base, list);
+    let done = watch::watch(machine, *marks, window, window_marks, base, list);
     let stop = done.stop;
     let count = done.count;
-    let marked = done.marks;
+    *marks = done.marks;
     encode(done.machine, state);
-    encode_marks(marked, marks);
     report_stop(stop, count, answer)
 }
 

@@ -28,10 +28,13 @@ use machine::place::WINDOW;
 use script::item::Layout;
 use script::text::Taken;
 
+// The word of marks in which every place is known: a bit for each place before the window.
+const ALL_KNOWN: u64 = 0xF_FFFF_FFFF_FFFF;
+
 // Reads the text, and runs what it says.
 fn run_text(text: &[u8]) {
     let mut state = [0u32; WINDOW];
-    let mut marks = [1u8; WINDOW];
+    let mut marks = ALL_KNOWN;
     let mut window = [0u32; 16384];
     let mut window_marks = [1u8; 16384];
     let mut list = [0u32; 4096];
@@ -54,7 +57,7 @@ fn run_text(text: &[u8]) {
 fn run_list(
     layout: Layout,
     state: [u32; WINDOW],
-    marks: [u8; WINDOW],
+    marks: u64,
     window: [u32; 16384],
     window_marks: [u8; 16384],
     list: [u32; 4096],
@@ -79,7 +82,7 @@ fn run_list(
         &mut v[..words],
         &list[..count],
         &state,
-        &marks,
+        marks,
         &window[..words],
         &window_marks[..words],
     );
@@ -89,20 +92,21 @@ fn run_list(
 fn run_parts(
     base: u32,
     s: &mut [u32],
-    m: &mut [u8],
+    m: &mut u64,
     w: &mut [u32],
     v: &mut [u8],
     list: &[u32],
     state: &[u32],
-    marks: &[u8],
+    marks: u64,
     window: &[u32],
     window_marks: &[u8],
 ) {
     let mut answer = [0u32; 4];
     let kind = fpu::fpu_watch(s, m, w, v, base, 0, list, &mut answer);
-    outcome::stop(kind, answer, list, s, m);
-    outcome::unknown(m, v);
-    outcome::changed(state, marks, window, window_marks, s, m, w, v);
+    let after = *m;
+    outcome::stop(kind, answer, list, s, after);
+    outcome::unknown(after, v);
+    outcome::changed(state, marks, window, window_marks, s, after, w, v);
 }
 
 // Room for a text.

@@ -13,7 +13,7 @@ fn text(b: &[u8]) {
 }
 
 // The stop of a run by the number of its kind, with the count, the place, the address and the word of its answer.
-pub fn stop(kind: u32, answer: [u32; 4], list: &[u32], state: &[u32], marks: &[u8]) {
+pub fn stop(kind: u32, answer: [u32; 4], list: &[u32], state: &[u32], marks: u64) {
     let count = answer[0] as usize;
     print(line::stop(kind, count, answer[1], answer[2], list, state, marks));
     text(b"\n");
@@ -21,7 +21,7 @@ pub fn stop(kind: u32, answer: [u32; 4], list: &[u32], state: &[u32], marks: &[u
     text(b"\n");
 }
 
-pub fn unknown(marks: &[u8], window_marks: &[u8]) {
+pub fn unknown(marks: u64, window_marks: &[u8]) {
     text(b"unknown:");
     let end = window_marks.len() + WINDOW;
     let mut first = true;
@@ -39,11 +39,11 @@ pub fn unknown(marks: &[u8], window_marks: &[u8]) {
 
 pub fn changed(
     state: &[u32],
-    marks: &[u8],
+    marks: u64,
     window: &[u32],
     window_marks: &[u8],
     s: &[u32],
-    m: &[u8],
+    m: u64,
     w: &[u32],
     v: &[u8],
 ) {

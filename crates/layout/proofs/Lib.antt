@@ -1,6 +1,4 @@
 -- The laws of the layout.
 pub mod Both
 pub mod Copied
-pub mod CopiedMarks
 pub mod Words
-pub mod Bytes

@@ -1,3 +1,2 @@
--- The layout of a machine, and of its marks, in lent buffers.
+-- The layout of a machine in lent words.
 pub mod State
-pub mod Marks

@@ -1,3 +1,2 @@
-// The layout of a machine in 52 words and of its marks in 52 bytes, places 0 to 51 in order.
-pub mod marks;
+// The layout of a machine in 52 words, places 0 to 51 in order.
 pub mod state;

@@ -6,8 +6,15 @@ use lib.Dec.{eqb}
 use lib.ListN.{getD, set}
 use Rattle.bits.specs.Psr.{oneOf}
 use Rattle.machine.specs.Place.{Place, single, core, word, flags, control, exc, nzcv}
-use Rattle.meaning.specs.declared.Marks.{Marks}
-use Rattle.meaning.specs.declared.Known.{Known}
+
+-- whether each place before the window is known: s0 to s31, r0 to r15, FPSCR 31:28 and 27:0, FPEXC, NZCV
+pub record Marks : Type 0 where
+  pub s : List Bool
+  pub r : List Bool
+  pub flags : Bool
+  pub control : Bool
+  pub exc : Bool
+  pub nzcv : Bool
 
 -- the marks before the window, and the window's own, each 0 or 1
 pub record Map : Type 0 where
@@ -16,16 +23,6 @@ pub record Map : Type 0 where
 
 abbrev pub mapOf : Marks → List ℕ → Map
 mapOf k w = record { marks = k; words = w }
-
--- the marks of their parts, and the parts that are no array
-abbrev pub marksFrom : List Bool → List Bool → Known → Marks
-marksFrom s r k = record { s = s; r = r; flags = k .flags; control = k .control; exc = k .exc; nzcv = k .nzcv }
-
-abbrev pub knownOf : Marks → Known
-knownOf k = record { flags = k .flags; control = k .control; exc = k .exc; nzcv = k .nzcv }
-
-abbrev pub mapFrom : List Bool → List Bool → Known → List ℕ → Map
-mapFrom s r k words = mapOf (marksFrom s r k) words
 
 -- what is read outside the window is known
 abbrev pub known : Map → Place → Bool

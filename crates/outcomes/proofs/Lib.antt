@@ -1,6 +1,5 @@
 -- From what the calls and the runs promise to what the exported functions leave.
 pub mod Calls
-pub mod ValidWatch
 pub mod Refused
 pub mod Runs
 pub mod Unchanged

@@ -1,4 +1,4 @@
--- The places of what buffers encode, by their numbers: word n and mark n are those of place n.
+-- The places of what buffers encode, by their numbers: word n is that of place n.
 use Prim.Native.Nat.{ℕ, zero, suc, _+_, _-_, _/_, _%_, _^_, _<_, _≤_}
 use native.Mathlib.Omega.{arith}
 use native.Mathlib.Decide.{decLt}
@@ -11,12 +11,7 @@ use lib.Seq.{getD-take, getD-drop, length-take-le}
 use borrow.Author.Tests.{lt-ltb, le-ltb}
 use Rattle.bits.specs.Psr.{nzcvOf, psrOf}
 use Rattle.machine.specs.Place.{Place, single, core, word, flags, control, exc, nzcv, place, before, get, state}
-use Rattle.meaning.specs.declared.Marks.{Marks}
-use Rattle.meaning.specs.Map.{known, mapOf}
-use Rattle.watch.specs.Demand.{Mapped}
 use Rattle.layout.specs.State.{decode, Valid}
-use Rattle.layout.specs.Marks.{boolsOf, encodeMarks, decodeMarks}
-use Rattle.layout.proofs.Bytes.{decode-encode-marks}
 
 -- a fact of the places before the window, by their sorts
 pub by-number : (P : ℕ → Place → Type 0) → ((n : ℕ) → n < 32 → P n (single n)) → ((n : ℕ) → n < 16 → P (32 + n) (core n)) → P 48 flags → P 49 control → P 50 exc → P 51 nzcv
@@ -56,25 +51,6 @@ module _ (thumb : Bool) (l w : List ℕ) (z : Valid l) where
   decoded-place =
       by-number (λ n p. get (state (decode thumb l) w) p ≡ held p (getD l n 0)) (λ n h. getD-take 32 l n 0 h) (λ n h. core-part l 0 n h)
       (omega (arith, z .flags-only, z .control-only)) (omega (arith, z .flags-only, z .control-only)) refl refl
-
--- ---- marks
-
-one-bool : (m : List ℕ) (n : ℕ) → getD (boolsOf m) n false ≡ eqb (getD m n 0) 1
-unfolding boolsOf
-one-bool [] n = refl
-one-bool (x ∷ m) zero = refl
-one-bool (x ∷ m) (suc n) = one-bool m n
-
-pub decoded-mark : (m v : List ℕ) (n : ℕ) → n < before → known (mapOf (decodeMarks m) v) (place n) ≡ eqb (getD m n 0) 1
-unfolding decodeMarks
-decoded-mark m v =
-    by-number (λ n p. known (mapOf (decodeMarks m) v) p ≡ eqb (getD m n 0) 1)
-    (λ n h. one-bool (take 32 m) n ∙ ap (λ (x : ℕ). eqb x 1) (getD-take 32 m n 0 h))
-    (λ n h. one-bool (take 16 (drop 32 m)) n ∙ ap (λ (x : ℕ). eqb x 1) (core-part m 0 n h)) refl refl refl refl
-
-pub encoded-mark : (k : Marks) (v : List ℕ) → Mapped (mapOf k v) → (n : ℕ) → n < before → known (mapOf k v) (place n) ≡ eqb (getD (encodeMarks k) n 0) 1
-encoded-mark k v z n h =
-    subst (λ (x : Marks). known (mapOf x v) (place n) ≡ eqb (getD (encodeMarks k) n 0) 1) (decode-encode-marks k (z .s) (z .r)) (decoded-mark (encodeMarks k) v n h)
 
 -- ---- the window
 

@@ -23,13 +23,13 @@ use Rattle.watch.specs.Watch.{limitOf, watchReply}
 use Rattle.meaning.specs.Run as R
 use Rattle.layout.specs.State.{Valid, encode}
 use Rattle.layout.proofs.Words.{encode-decode}
-use Rattle.layout.proofs.Bytes.{encode-decode-marks}
+use Rattle.place_marks.specs.Word.{mapIn}
+use Rattle.place_marks.proofs.Word.{words-in}
 use Rattle.answer.proofs.Bounds.{Near, near-data, near-transfer, near-load-store, near-meaning, plain-fine, run-bounded, watch-bounded}
 use Rattle.outcomes.specs.Outcome.{outcome, reported, invalidArgument, validCall, decodedState, renewed}
-use Rattle.outcomes.specs.WatchOutcome.{watchOutcome, reportedWatch, validWatch, decodedMap, watched}
+use Rattle.outcomes.specs.WatchOutcome.{watchOutcome, watchedFrom, watched}
 use Rattle.outcomes.specs.Buffers.{Unchanged, UnchangedMarks, Refusals}
 use Rattle.outcomes.proofs.Calls.{valid-call-state}
-use Rattle.outcomes.proofs.ValidWatch.{valid-watch-state, valid-watch-bits}
 
 -- ---- a reply that is a refusal leaves the state
 
@@ -63,7 +63,7 @@ run-unchanged base list st = by (eqb n 0)
     by false p = refl
 
 watch-unchanged : (base : ℕ) (list : List ℕ) (st : State) (μ : Map) → 100 ≤ watchReply base list st μ .report .kind
-    → (watchReply base list st μ .leaves ≡ st) × (watchReply base list st μ .map ≡ μ)
+    → (watchReply base list st μ .leaves ≡ st) × (watchReply base list st μ .map ≡ μ) × (eqb (limitOf base list st μ) 0 ≡ false)
 unfolding watchReply
 watch-unchanged base list st μ = by (eqb n 0)
   where
@@ -73,9 +73,9 @@ watch-unchanged base list st μ = by (eqb n 0)
     y : Bool → Watch.Reply
     y b = cond b (Watch.reply (R.watch (meaning base) list 0 st μ)) (record { report = report (refused n); count = 0; leaves = st; map = μ })
 
-    by : (b : Bool) → 100 ≤ y b .report .kind → (y b .leaves ≡ st) × (y b .map ≡ μ)
+    by : (b : Bool) → 100 ≤ y b .report .kind → (y b .leaves ≡ st) × (y b .map ≡ μ) × (b ≡ false)
     by true p = absurd (omega (arith, watch-bounded (meaning base) (near-meaning base) list 0 st μ .0 .1, p))
-    by false p = (refl, refl)
+    by false p = (refl, refl, refl)
 
 -- ---- in the buffers
 
@@ -90,17 +90,14 @@ module _ (l w : List ℕ) (thumb : ℕ) (a : List ℕ) (small : (n : ℕ) → ge
           (rw (k p) (encode-decode (eqb thumb 1) l v (small 51)), rw (k p))
       by false e p = (refl, refl)
 
-  pub unchanged-marks : (base : ℕ) (list m v : List ℕ) → UnchangedMarks l m w v (watched base list l m w v thumb a)
-  unchanged-marks base list m v = by (validWatch l m thumb (length a)) refl
+  pub unchanged-marks : (base : ℕ) (list : List ℕ) (m : ℕ) (v : List ℕ) → UnchangedMarks l m w v (watched base list l m w v thumb a)
+  unchanged-marks base list m v = by (validCall l thumb (length a)) refl
     where
-      y : Watch.Reply
-      y = watchReply base list (decodedState l w thumb) (decodedMap m v)
-
-      by : (b : Bool) → validWatch l m thumb (length a) ≡ b → UnchangedMarks l m w v (cond b (reportedWatch y) (watchOutcome invalidArgument l m w v a))
+      by : (b : Bool) → validCall l thumb (length a) ≡ b → UnchangedMarks l m w v (cond b (watchedFrom base list (decodedState l w thumb) m v) (watchOutcome invalidArgument l m w v a))
       by true e p =
-          let k = watch-unchanged base list (decodedState l w thumb) (decodedMap m v) p in
-          let z : Valid l = valid-watch-state l m thumb (length a) true (sym e) refl in
-          (rw (k .0) (encode-decode (eqb thumb 1) l z (small 51)), rw (k .1) (encode-decode-marks m (valid-watch-bits l m thumb (length a) true (sym e) refl)), rw (k .0), rw (k .1))
+          let k = watch-unchanged base list (decodedState l w thumb) (mapIn m v) p in
+          let z : Valid l = valid-call-state l thumb (length a) true (sym e) refl in
+          (rw (k .0) (encode-decode (eqb thumb 1) l z (small 51)), rw (k .2), rw (k .0), rw (k .1) (words-in m v))
       by false e p = (refl, refl, refl, refl)
 
 unchanged-new : (l : List ℕ) → Unchanged l [] (renewed l)

@@ -49,16 +49,16 @@ fn changed(p: u32, was: bool, old: u32, is: bool, new: u32) -> Text
 // The change of a place: what it was stands first.
 pub fn change(
     state: &[u32],
-    marks: &[u8],
+    marks: u64,
     window: &[u32],
     window_marks: &[u8],
     s: &[u32],
-    m: &[u8],
+    m: u64,
     w: &[u32],
     v: &[u8],
     p: usize,
 ) -> Text
-    ensures { λ r. ⌜ textOf r ≡ clip (changeText (p % 2 ^ 32) (knownAt (now (marks .entry)) (now («window_marks» .entry)) p) (valueAt (now (state .entry)) (now (window .entry)) p) (knownAt (now (m .entry)) (now (v .entry)) p) (valueAt (now (s .entry)) (now (w .entry)) p)) ⌝ }
+    ensures { λ r. ⌜ textOf r ≡ clip (changeText (p % 2 ^ 32) (knownAt marks (now («window_marks» .entry)) p) (valueAt (now (state .entry)) (now (window .entry)) p) (knownAt m (now (v .entry)) p) (valueAt (now (s .entry)) (now (w .entry)) p)) ⌝ }
 {
     let was = is_known(marks, window_marks, p);
     let old = value(state, window, p);

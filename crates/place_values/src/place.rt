@@ -1,4 +1,4 @@
-// The marks and values of places, by their numbers, in the words and marks of the state and of the window.
+// The marks and values of places, by their numbers: the words of the state and of the window, the word of marks, and the window's own marks.
 ghost use mathlib.Core.Path.{_≡_};
 ghost use Prim.Native.Nat.{_≤_};
 ghost use Rattle.place_values.specs.Place.{markedAt, wordAt, knownAt, valueAt, differsOf, nextUnknown, changedAt, nextChange};
@@ -6,7 +6,8 @@ use machine::place::FLAGS;
 use machine::place::NZCV;
 use machine::place::WINDOW;
 
-pub fn marked(marks: &[u8], i: usize) -> bool
+// The mark of a word of the window.
+fn marked(marks: &[u8], i: usize) -> bool
     ensures { λ r. ⌜ r ≡ markedAt (now (marks .entry)) i ⌝ }
 {
     if i < marks.len() {
@@ -25,11 +26,11 @@ pub fn word(words: &[u32], i: usize) -> u32
 }
 
 // Whether a place is known.
-pub fn is_known(marks: &[u8], window_marks: &[u8], p: usize) -> bool
-    ensures { λ r. ⌜ r ≡ knownAt (now (marks .entry)) (now («window_marks» .entry)) p ⌝ }
+pub fn is_known(marks: u64, window_marks: &[u8], p: usize) -> bool
+    ensures { λ r. ⌜ r ≡ knownAt marks (now («window_marks» .entry)) p ⌝ }
 {
     if p < WINDOW {
-        return marked(marks, p);
+        return place_marks::place::is_known(marks, p);
     }
     marked(window_marks, p - WINDOW)
 }
@@ -64,8 +65,8 @@ fn differs(was: bool, old: u32, is: bool, new: u32) -> bool
 }
 
 // The first place that is unknown, from a place on and below an end, or the end.
-pub fn next_unknown(marks: &[u8], window_marks: &[u8], from: usize, end: usize) -> usize
-    ensures { λ r. ⌜ (from ≤ r) × (r ≡ nextUnknown (now (marks .entry)) (now («window_marks» .entry)) from end) ⌝ }
+pub fn next_unknown(marks: u64, window_marks: &[u8], from: usize, end: usize) -> usize
+    ensures { λ r. ⌜ (from ≤ r) × (r ≡ nextUnknown marks (now («window_marks» .entry)) from end) ⌝ }
 {
     let mut p = from;
     while p < end {
@@ -81,16 +82,16 @@ pub fn next_unknown(marks: &[u8], window_marks: &[u8], from: usize, end: usize) 
 // Whether a place is another in its mark or its known value: what it was stands first.
 fn changed(
     state: &[u32],
-    marks: &[u8],
+    marks: u64,
     window: &[u32],
     window_marks: &[u8],
     s: &[u32],
-    m: &[u8],
+    m: u64,
     w: &[u32],
     v: &[u8],
     p: usize,
 ) -> bool
-    ensures { λ r. ⌜ r ≡ changedAt (now (state .entry)) (now (marks .entry)) (now (window .entry)) (now («window_marks» .entry)) (now (s .entry)) (now (m .entry)) (now (w .entry)) (now (v .entry)) p ⌝ }
+    ensures { λ r. ⌜ r ≡ changedAt (now (state .entry)) marks (now (window .entry)) (now («window_marks» .entry)) (now (s .entry)) m (now (w .entry)) (now (v .entry)) p ⌝ }
 {
     differs(
         is_known(marks, window_marks, p),
@@ -103,17 +104,17 @@ fn changed(
 // The first place that changed, from a place on and below an end, or the end.
 pub fn next_change(
     state: &[u32],
-    marks: &[u8],
+    marks: u64,
     window: &[u32],
     window_marks: &[u8],
     s: &[u32],
-    m: &[u8],
+    m: u64,
     w: &[u32],
     v: &[u8],
     from: usize,
     end: usize,
 ) -> usize
-    ensures { λ r. ⌜ (from ≤ r) × (r ≡ nextChange (now (state .entry)) (now (marks .entry)) (now (window .entry)) (now («window_marks» .entry)) (now (s .entry)) (now (m .entry)) (now (w .entry)) (now (v .entry)) from end) ⌝ }
+    ensures { λ r. ⌜ (from ≤ r) × (r ≡ nextChange (now (state .entry)) marks (now (window .entry)) (now («window_marks» .entry)) (now (s .entry)) m (now (w .entry)) (now (v .entry)) from end) ⌝ }
 {
     let mut p = from;
     while p < end {

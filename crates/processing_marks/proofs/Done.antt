@@ -5,13 +5,10 @@ use native.Mathlib.Omega.{arith}
 use native.Mathlib.Decide.{ℕ-discrete}
 use lib.Dec.{eqb}
 use mathlib.Core.Bool.{Bool, true, false, cond, _&&_}
-use mathlib.Core.List.{List}
 use lib.Ieee.{Format}
 use Rattle.machine.specs.Machine.{withFpscr}
 use Rattle.machine.specs.Place.{control, core, state}
-use Rattle.meaning.specs.declared.Known.{Known}
-use Rattle.meaning.specs.Map.{mapFrom}
-use Rattle.meaning.specs.Step.{Step, stepMarks, once}
+use Rattle.meaning.specs.Step.{Step, once}
 use Rattle.meaning.specs.Tree.{Tree, go}
 use Rattle.meaning.proofs.Laws.{marked-ask, marked-family, marked-once, marked-stop}
 use Rattle.numbers.specs.declared.arithmetic.Arithmetic.{Arithmetic}
@@ -25,41 +22,39 @@ use Rattle.steps.specs.Sign.{signStep}
 use Rattle.arithmetic_steps.specs.Arithmetic.{dyadicStep}
 use Rattle.decoding.specs.Fields.{regD, regN, regM}
 use Rattle.processing.specs.Data.{stepping, dyadic, monadic, undefinedTree, operationTree, extensionTree}
-use Rattle.processing_marks.specs.Marked.{Marked, MarksIterated}
+use Rattle.place_marks.specs.Word.{mapIn}
+use Rattle.processing_marks.specs.Marked.{Marked, MarksStepped, MarksIterated}
 
-module _ (fpscr : ℕ) (s s′ : List Bool) (k : Known) (t : Bool → Tree) where
+module _ (fpscr m m′ : ℕ) (t : Bool → Tree) where
   stepping-marked : (f : Format) (d : ℕ) (each : ℕ → ℕ → Step) → ((thumb : Bool) → t thumb ≡ stepping f d each)
-      → MarksIterated (iterationsOf f (fpscr % 2 ^ 28) d) (each (fpscr % 2 ^ 28)) s s′
-      → Marked t fpscr s k s′ k
-  stepping-marked f d each e h thumb q v r w =
+      → MarksIterated (iterationsOf f (fpscr % 2 ^ 28) d) (each (fpscr % 2 ^ 28)) m m′
+      → Marked t fpscr m m′
+  stepping-marked f d each e h thumb q v w =
       rw (e thumb)
-      (marked-ask control _ (state (withFpscr q fpscr) v) (mapFrom s r k w) _
-      (marked-family _ (each (fpscr % 2 ^ 28)) (state (withFpscr q fpscr) v) (mapFrom s r k w) _ (h r k w)))
+      (marked-ask control _ (state (withFpscr q fpscr) v) (mapIn m w) _
+      (marked-family _ (each (fpscr % 2 ^ 28)) (state (withFpscr q fpscr) v) (mapIn m w) _ (h w)))
 
-  pub dyadic-marked : (f : Format) (w₀ : ℕ) (kind k₁ : Arithmetic) (d n m : ℕ) → ((thumb : Bool) → t thumb ≡ dyadic f w₀ kind) → k₁ ≡ kind → d ≡ regD f w₀ → n ≡ regN f w₀ → m ≡ regM f w₀
-      → MarksIterated (iterationsOf f (fpscr % 2 ^ 28) d) (dyadicStep f (fpscr % 2 ^ 28) k₁ d n m) s s′
-      → Marked t fpscr s k s′ k
-  dyadic-marked f w₀ kind k₁ d n m e k′ d′ n′ m′ h =
-      stepping-marked f (regD f w₀) (λ c. dyadicStep f c kind (regD f w₀) (regN f w₀) (regM f w₀)) e (λ r k w. rw (← k′, ← d′, ← n′, ← m′) (h r k w))
+  pub dyadic-marked : (f : Format) (w₀ : ℕ) (kind : Arithmetic) → ((thumb : Bool) → t thumb ≡ dyadic f w₀ kind)
+      → MarksIterated (iterationsOf f (fpscr % 2 ^ 28) (regD f w₀)) (dyadicStep f (fpscr % 2 ^ 28) kind (regD f w₀) (regN f w₀) (regM f w₀)) m m′
+      → Marked t fpscr m m′
+  dyadic-marked f w₀ kind e h = stepping-marked f (regD f w₀) (λ c. dyadicStep f c kind (regD f w₀) (regN f w₀) (regM f w₀)) e h
 
-  pub monadic-marked : (f : Format) (w₀ : ℕ) (one : ℕ → ℕ → ℕ → Step) (d m : ℕ) → ((thumb : Bool) → t thumb ≡ monadic f w₀ one) → d ≡ regD f w₀ → m ≡ regM f w₀
-      → MarksIterated (iterationsOf f (fpscr % 2 ^ 28) d) (monadicStep f (fpscr % 2 ^ 28) (one (fpscr % 2 ^ 28)) d m) s s′
-      → Marked t fpscr s k s′ k
-  monadic-marked f w₀ one d m e d′ m′ h =
-      stepping-marked f (regD f w₀) (λ c. monadicStep f c (one c) (regD f w₀) (regM f w₀)) e (λ r k w. rw (← d′, ← m′) (h r k w))
+  pub monadic-marked : (f : Format) (w₀ : ℕ) (one : ℕ → ℕ → ℕ → Step) → ((thumb : Bool) → t thumb ≡ monadic f w₀ one)
+      → MarksIterated (iterationsOf f (fpscr % 2 ^ 28) (regD f w₀)) (monadicStep f (fpscr % 2 ^ 28) (one (fpscr % 2 ^ 28)) (regD f w₀) (regM f w₀)) m m′
+      → Marked t fpscr m m′
+  monadic-marked f w₀ one e h = stepping-marked f (regD f w₀) (λ c. monadicStep f c (one c) (regD f w₀) (regM f w₀)) e h
 
-  pub once-marked : (k′ : Known) (x : Step) → ((thumb : Bool) → t thumb ≡ go (once x))
-      → ((r : List Bool) (w : List ℕ) → mapFrom s′ r k′ w ≡ stepMarks x (mapFrom s r k w)) → Marked t fpscr s k s′ k′
-  once-marked k′ x e h thumb q v r w = rw (e thumb) (marked-once x (state (withFpscr q fpscr) v) (mapFrom s r k w) _ (h r w))
+  pub once-marked : (x : Step) → ((thumb : Bool) → t thumb ≡ go (once x)) → MarksStepped x m m′ → Marked t fpscr m m′
+  once-marked x e h thumb q v w = rw (e thumb) (marked-once x (state (withFpscr q fpscr) v) (mapIn m w) _ (h w))
 
 -- an Undefined word changes no mark
-pub undefined-marked : (fpscr : ℕ) (s : List Bool) (k : Known) (t : Bool → Tree) (w₀ : ℕ) → ((thumb : Bool) → t thumb ≡ undefinedTree thumb w₀) → Marked t fpscr s k s k
-undefined-marked fpscr s k t w₀ e thumb q v r w =
-    rw (e thumb) (marked-ask (core 15) _ (state (withFpscr q fpscr) v) (mapFrom s r k w) _ (marked-stop _ (state (withFpscr q fpscr) v) (mapFrom s r k w)))
+pub undefined-marked : (fpscr m : ℕ) (t : Bool → Tree) (w₀ : ℕ) → ((thumb : Bool) → t thumb ≡ undefinedTree thumb w₀) → Marked t fpscr m m
+undefined-marked fpscr m t w₀ e thumb q v w =
+    rw (e thumb) (marked-ask (core 15) _ (state (withFpscr q fpscr) v) (mapIn m w) _ (marked-stop _ (state (withFpscr q fpscr) v) (mapIn m w)))
 
 -- the same word under another tree that is equal
-pub marked-as : (t u : Bool → Tree) (fpscr : ℕ) (s : List Bool) (k : Known) (s′ : List Bool) (k′ : Known) → ((thumb : Bool) → u thumb ≡ t thumb) → Marked t fpscr s k s′ k′ → Marked u fpscr s k s′ k′
-marked-as t u fpscr s k s′ k′ e h thumb q v r w = rw (e thumb) (h thumb q v r w)
+pub marked-as : (t u : Bool → Tree) (fpscr m m′ : ℕ) → ((thumb : Bool) → u thumb ≡ t thumb) → Marked t fpscr m m′ → Marked u fpscr m m′
+marked-as t u fpscr m m′ e h thumb q v w = rw (e thumb) (h thumb q v w)
 
 pub sign-either : (f : Format) (w : ℕ) (thumb b : Bool) → operationTree thumb f w (extensionBy 0 b) ≡ monadic f w (λ c. signStep f (cond b Absolute Copy))
 unfolding operationTree extensionBy

@@ -1,16 +1,14 @@
 -- The marks that one step leaves, over the precision.
 use Prim.Native.Nat.{ℕ}
 use mathlib.Core.Path.{_≡_, refl, ap, _∙_}
-use mathlib.Core.Bool.{Bool, true, false, _&&_}
+use mathlib.Core.Bool.{Bool, true, false, cond, _&&_}
 use mathlib.Core.List.{List, [], _∷_}
 use lib.Ieee.{Format, binary32, binary64}
-use lib.ListN.{getD}
-use Rattle.machine.specs.Registers.{lowIndex, highIndex}
-use Rattle.machine.specs.Place.{Place, sWord}
-use Rattle.meaning.specs.declared.Known.{Known}
-use Rattle.meaning.specs.Map.{mapFrom}
+use Rattle.machine.specs.Place.{Place, sWord, lowWord, highWord, flags, control}
+use Rattle.meaning.specs.Map.{Map, known, mark}
 use Rattle.meaning.specs.Step.{Step, allKnown, stepMarks}
 use Rattle.meaning.proofs.Laws.{marks-none, marks-one}
+use Rattle.numbers.specs.Arithmetic.{accumulates}
 use Rattle.numbers.specs.declared.arithmetic.Arithmetic.{Arithmetic}
 use Rattle.steps.specs.declared.sign.SignOperation.{SignOperation}
 use Rattle.short_vectors.specs.Register.{wordsOf, written}
@@ -21,73 +19,82 @@ use Rattle.steps.specs.Compare.{compareStep, compareZeroStep}
 use Rattle.conversions.specs.Width.{widenStep, narrowStep}
 use Rattle.conversions.specs.Integer.{fromStep, truncateStep, roundStep}
 use Rattle.short_vectors.proofs.Loop.{Repeats}
-use Rattle.processing_marks.specs.Marked.{MarksStepped, MarksIterated, flagged}
-use Rattle.processing_marks.specs.Register.{knownIn, allIn, markIn, copyIn}
+use Rattle.place_marks.specs.Register.{knownIn, markIn, copyIn}
+use Rattle.processing_marks.specs.Marked.{MarksStepped, MarksIterated, Copies, allIn}
 
-pub and-assoc : (a b c : Bool) → ((a && b) && c) ≡ (a && (b && c))
+and-assoc : (a b c : Bool) → ((a && b) && c) ≡ (a && (b && c))
 and-assoc true b c = refl
 and-assoc false b c = refl
 
-module _ (s r : List Bool) (k : Known) (w : List ℕ) where
-  pub all-known : (f : Format) (ns : List ℕ) → allKnown (mapFrom s r k w) (wordsOf f ns) ≡ allIn f s ns
+module _ (μ : Map) where
+  all-known : (f : Format) (ns : List ℕ) → allKnown μ (wordsOf f ns) ≡ allIn f μ ns
   all-known f [] = refl
-  all-known binary32 (n ∷ ns) = ap (λ (b : Bool). b && knownIn binary32 s n) (all-known binary32 ns)
+  all-known binary32 (n ∷ ns) = ap (λ (b : Bool). b && knownIn binary32 μ n) (all-known binary32 ns)
   all-known binary64 (n ∷ ns) =
-      and-assoc (allKnown (mapFrom s r k w) (wordsOf binary64 ns)) (getD s (highIndex n) false) (getD s (lowIndex n) false) ∙ ap (λ (b : Bool). b && knownIn binary64 s n) (all-known binary64 ns)
+      and-assoc (allKnown μ (wordsOf binary64 ns)) (known μ (highWord n)) (known μ (lowWord n)) ∙ ap (λ (b : Bool). b && knownIn binary64 μ n) (all-known binary64 ns)
 
-  pub written-marks : (f : Format) (d : ℕ) (sources : List Place) (value : List ℕ → ℕ)
-      → stepMarks (written f d sources value) (mapFrom s r k w) ≡ mapFrom (markIn f s d (allKnown (mapFrom s r k w) sources)) r k w
+  written-marks : (f : Format) (d : ℕ) (sources : List Place) (value : List ℕ → ℕ) → stepMarks (written f d sources value) μ ≡ markIn f μ d (allKnown μ sources)
   written-marks binary32 d sources value = refl
   written-marks binary64 d sources value = refl
 
-  pub sign-marks : (f : Format) (sign : SignOperation) (d m : ℕ) → stepMarks (signStep f sign d m) (mapFrom s r k w) ≡ mapFrom (copyIn f s d m) r k w
-  sign-marks binary32 sign d m = refl
-  sign-marks binary64 sign d m = refl
+  arithmetic-marks : (f : Format) (c : ℕ) (kind : Arithmetic) (d n m : ℕ) → stepMarks (arithmeticStep f c kind d n m) μ ≡ markIn f μ d (allIn f μ (operands kind d n m))
+  arithmetic-marks f c kind d n m = written-marks f d (wordsOf f (operands kind d n m)) _ ∙ ap (markIn f μ d) (all-known f (operands kind d n m))
 
-  pub arithmetic-marks : (f : Format) (c : ℕ) (kind : Arithmetic) (d n m : ℕ)
-      → stepMarks (arithmeticStep f c kind d n m) (mapFrom s r k w) ≡ mapFrom (markIn f s d (allIn f s (operands kind d n m))) r k w
-  arithmetic-marks f c kind d n m =
-      written-marks f d (wordsOf f (operands kind d n m)) _ ∙ ap (λ (b : Bool). mapFrom (markIn f s d b) r k w) (all-known f (operands kind d n m))
+  pub accumulate-marks : (f : Format) (c : ℕ) (kind : Arithmetic) (d n m : ℕ) → accumulates kind ≡ true
+      → stepMarks (arithmeticStep f c kind d n m) μ ≡ markIn f μ d ((knownIn f μ d && knownIn f μ m) && knownIn f μ n)
+  accumulate-marks f c kind d n m e = arithmetic-marks f c kind d n m ∙ ap (λ (b : Bool). markIn f μ d (allIn f μ (cond b (n ∷ m ∷ d ∷ []) (n ∷ m ∷ [])))) e
 
-  pub root-marks : (f : Format) (c d m : ℕ) → stepMarks (rootStep f c d m) (mapFrom s r k w) ≡ mapFrom (markIn f s d (knownIn f s m)) r k w
-  root-marks f c d m = written-marks f d (wordsOf f (m ∷ [])) _ ∙ ap (λ (b : Bool). mapFrom (markIn f s d b) r k w) (all-known f (m ∷ []))
+  pub two-operand-marks : (f : Format) (c : ℕ) (kind : Arithmetic) (d n m : ℕ) → accumulates kind ≡ false
+      → stepMarks (arithmeticStep f c kind d n m) μ ≡ markIn f μ d (knownIn f μ m && knownIn f μ n)
+  two-operand-marks f c kind d n m e = arithmetic-marks f c kind d n m ∙ ap (λ (b : Bool). markIn f μ d (allIn f μ (cond b (n ∷ m ∷ d ∷ []) (n ∷ m ∷ [])))) e
 
-  pub compare-marks : (f : Format) (d m : ℕ) → stepMarks (compareStep f d m) (mapFrom s r k w) ≡ mapFrom s r (flagged k (knownIn f s m && knownIn f s d)) w
-  compare-marks f d m = ap (λ (b : Bool). mapFrom s r (flagged k b) w) (all-known f (d ∷ m ∷ []))
+  pub root-marks : (f : Format) (c d m : ℕ) → stepMarks (rootStep f c d m) μ ≡ markIn f μ d (knownIn f μ m)
+  root-marks f c d m = written-marks f d (wordsOf f (m ∷ [])) _ ∙ ap (markIn f μ d) (all-known f (m ∷ []))
 
-  pub compare-zero-marks : (f : Format) (d : ℕ) → stepMarks (compareZeroStep f d) (mapFrom s r k w) ≡ mapFrom s r (flagged k (knownIn f s d)) w
-  compare-zero-marks f d = ap (λ (b : Bool). mapFrom s r (flagged k b) w) (all-known f (d ∷ []))
+  pub compare-marks : (f : Format) (d m : ℕ) → stepMarks (compareStep f d m) μ ≡ mark μ flags (knownIn f μ m && knownIn f μ d)
+  compare-marks f d m = ap (mark μ flags) (all-known f (d ∷ m ∷ []))
 
-  pub widen-marks : (d m : ℕ) → stepMarks (widenStep d m) (mapFrom s r k w) ≡ mapFrom (markIn binary64 s d (knownIn binary32 s m)) r k w
+  pub compare-zero-marks : (f : Format) (d : ℕ) → stepMarks (compareZeroStep f d) μ ≡ mark μ flags (knownIn f μ d)
+  compare-zero-marks f d = ap (mark μ flags) (all-known f (d ∷ []))
+
+  pub widen-marks : (d m : ℕ) → stepMarks (widenStep d m) μ ≡ markIn binary64 μ d (knownIn binary32 μ m)
   widen-marks d m = refl
 
-  pub narrow-marks : (d m : ℕ) → stepMarks (narrowStep d m) (mapFrom s r k w) ≡ mapFrom (markIn binary32 s d (knownIn binary64 s m && k .control)) r k w
-  narrow-marks d m = ap (λ (b : Bool). mapFrom (markIn binary32 s d (b && k .control)) r k w) (all-known binary64 (m ∷ []))
+  pub narrow-marks : (d m : ℕ) → stepMarks (narrowStep d m) μ ≡ markIn binary32 μ d (knownIn binary64 μ m && known μ control)
+  narrow-marks d m = ap (λ (b : Bool). markIn binary32 μ d (b && known μ control)) (all-known binary64 (m ∷ []))
 
-  pub from-marks : (f : Format) (sign : Bool) (d m : ℕ) → stepMarks (fromStep f sign d m) (mapFrom s r k w) ≡ mapFrom (markIn f s d (knownIn binary32 s m)) r k w
+  pub from-marks : (f : Format) (sign : Bool) (d m : ℕ) → stepMarks (fromStep f sign d m) μ ≡ markIn f μ d (knownIn binary32 μ m)
   from-marks f sign d m = written-marks f d (sWord m ∷ []) _
 
-  pub truncate-marks : (f : Format) (sign : Bool) (d m : ℕ) → stepMarks (truncateStep f sign d m) (mapFrom s r k w) ≡ mapFrom (markIn binary32 s d (knownIn f s m)) r k w
-  truncate-marks f sign d m = ap (λ (b : Bool). mapFrom (markIn binary32 s d b) r k w) (all-known f (m ∷ []))
+  pub truncate-marks : (f : Format) (sign : Bool) (d m : ℕ) → stepMarks (truncateStep f sign d m) μ ≡ markIn binary32 μ d (knownIn f μ m)
+  truncate-marks f sign d m = ap (markIn binary32 μ d) (all-known f (m ∷ []))
 
-  pub round-marks : (f : Format) (sign : Bool) (d m : ℕ) → stepMarks (roundStep f sign d m) (mapFrom s r k w) ≡ mapFrom (markIn binary32 s d (knownIn f s m && k .control)) r k w
-  round-marks f sign d m = ap (λ (b : Bool). mapFrom (markIn binary32 s d (b && k .control)) r k w) (all-known f (m ∷ []))
+  pub round-marks : (f : Format) (sign : Bool) (d m : ℕ) → stepMarks (roundStep f sign d m) μ ≡ markIn binary32 μ d (knownIn f μ m && known μ control)
+  round-marks f sign d m = ap (λ (b : Bool). markIn binary32 μ d (b && known μ control)) (all-known f (m ∷ []))
 
--- steps on lent marks, and on marks that no sign operation tells apart
-abbrev pub onMarks : Repeats (List Bool) Step
+-- moves and sign changes copy marks, and so does the root of a single
+pub sign-copies : (f : Format) (sign : SignOperation) → Copies f (signStep f sign)
+sign-copies binary32 sign d m μ = refl
+sign-copies binary64 sign d m μ = refl
+
+pub root-copies : (c : ℕ) → Copies binary32 (rootStep binary32 c)
+root-copies c d m μ = refl
+
+-- steps on a word of marks, and steps that copy marks, whichever they are
+abbrev pub onMarks : Repeats ℕ Step
 onMarks =
     record {
       one = MarksStepped;
       all = MarksIterated;
-      none = λ each s r k w. marks-none each _;
-      next = λ i each s₀ s s′ h e r k w. e r k w ∙ marks-one i each _ _ (h r k w);
+      none = λ each m w. marks-none each _;
+      next = λ i each m₀ m m′ h e w. e w ∙ marks-one i each _ _ (h w);
     }
 
-abbrev pub onSignMarks : Repeats (List Bool) (SignOperation → Step)
-onSignMarks =
+abbrev pub onCopies : Format → Repeats ℕ ((ℕ → ℕ → Step) → Step)
+onCopies f =
     record {
-      one = λ y s s′. (sign : SignOperation) → MarksStepped (y sign) s s′;
-      all = λ n each s s′. (sign : SignOperation) → MarksIterated n (λ i. each i sign) s s′;
-      none = λ each s sign r k w. marks-none (λ i. each i sign) _;
-      next = λ i each s₀ s s′ h e sign r k w. e sign r k w ∙ marks-one i (λ j. each j sign) _ _ (h sign r k w);
+      one = λ y m m′. (one : ℕ → ℕ → Step) → Copies f one → MarksStepped (y one) m m′;
+      all = λ n each m m′. (one : ℕ → ℕ → Step) → Copies f one → MarksIterated n (λ i. each i one) m m′;
+      none = λ each m one k w. marks-none (λ i. each i one) _;
+      next = λ i each m₀ m m′ h e one k w. e one k w ∙ marks-one i (λ j. each j one) _ _ (h one k w);
     }

@@ -1,3 +1,2 @@
 -- What the crate's contracts mean.
-pub mod Register
 pub mod Marked

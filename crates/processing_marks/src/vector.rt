@@ -1,43 +1,68 @@
 // The marks of stepping words, iteration by iteration.
-ghost use Prim.Native.Nat.{_<_};
-ghost use Rattle.steps.specs.declared.sign.SignOperation.{SignOperation};
-ghost use Rattle.short_vectors.specs.Vector.{precision, iterationsOf, monadicStep};
-ghost use Rattle.steps.specs.Sign.{signStep};
-ghost use Rattle.arithmetic_steps.specs.Arithmetic.{dyadicStep};
+ghost use Prim.Native.Nat.{ℕ, _<_};
+ghost use lib.Ieee.{binary32, binary64};
+ghost use Rattle.meaning.specs.Step.{Step};
+ghost use Rattle.short_vectors.specs.Vector.{iterationsOf, monadicStep};
+ghost use Rattle.arithmetic_steps.specs.Arithmetic.{arithmeticStep, dyadicStep};
 ghost use Rattle.steps.specs.Root.{rootStep};
-ghost use Rattle.processing_marks.specs.Marked.{MarksIterated};
-use super::register::copy;
-use super::register::known;
-use super::register::mark;
-use super::register::operands_known;
+ghost use Rattle.processing_marks.specs.Marked.{MarksStepped, MarksIterated, Copies};
+use machine::registers::Double;
+use machine::registers::Single;
 use numbers::arithmetic::Arithmetic;
+use numbers::arithmetic::reads_d;
+use place_marks::registers::copy_double;
+use place_marks::registers::double_known;
+use place_marks::registers::mark_double;
+use place_marks::registers::mark_single;
+use place_marks::registers::single_known;
 use short_vectors::vector::Vector;
 
-// Arithmetic: the target is known when every word read is.
-pub(crate) fn mark_arithmetic(
-    ks: &mut [bool; 32],
-    control: u32,
-    double: bool,
-    kind: Arithmetic,
-    d: usize,
-    n: usize,
-    m: usize,
-)
-    requires { ⌜ (d < 32) × (n < 32) × (m < 32) ⌝ }
-    ensures { λ _. ⌜ MarksIterated (iterationsOf (precision double) control d) (dyadicStep (precision double) control kind d n m) (now (ks .entry)) (now (ks .exit)) ⌝ }
+// Arithmetic: the target is known when every word read is; old d is read by an accumulate alone.
+fn arithmetic_single(marks: u64, kind: Arithmetic, d: Single, n: Single, m: Single) -> u64
+    ensures { λ y. ⌜ ((control : ℕ) → MarksStepped (arithmeticStep binary32 control kind (d .0) (n .0) (m .0)) marks y) ⌝ }
 {
-    let vector = Vector::new(control, double, d);
+    if reads_d(kind) {
+        let all = single_known(marks, d) & single_known(marks, m) & single_known(marks, n);
+        return mark_single(marks, d, all);
+    }
+    let all = single_known(marks, m) & single_known(marks, n);
+    mark_single(marks, d, all)
+}
+
+fn arithmetic_double(marks: u64, kind: Arithmetic, d: Double, n: Double, m: Double) -> u64
+    ensures { λ y. ⌜ ((control : ℕ) → MarksStepped (arithmeticStep binary64 control kind (d .0) (n .0) (m .0)) marks y) ⌝ }
+{
+    if reads_d(kind) {
+        let all = double_known(marks, d) & double_known(marks, m) & double_known(marks, n);
+        return mark_double(marks, d, all);
+    }
+    let all = double_known(marks, m) & double_known(marks, n);
+    mark_double(marks, d, all)
+}
+
+pub(crate) fn arithmetic_singles(
+    marks: u64,
+    control: u32,
+    kind: Arithmetic,
+    d: Single,
+    n: Single,
+    m: Single,
+) -> u64
+    requires { ⌜ (d .0 < 32) × (n .0 < 32) × (m .0 < 32) ⌝ }
+    ensures { λ y. ⌜ MarksIterated (iterationsOf binary32 control (d .0)) (dyadicStep binary32 control kind (d .0) (n .0) (m .0)) marks y ⌝ }
+{
+    let vector = Vector::new(control, false, d.0);
     let count = vector.iterations;
-    let mut dn = d;
-    let mut nn = n;
-    let mut mn = m;
+    let mut done = marks;
+    let mut dn = d.0;
+    let mut nn = n.0;
+    let mut mn = m.0;
     let mut i: usize = 0;
     loop {
-        let all = operands_known(ks, double, kind, dn, nn, mn);
-        mark(ks, double, dn, all);
+        done = arithmetic_single(done, kind, Single(dn), Single(nn), Single(mn));
         i += 1;
         if i >= count {
-            return;
+            return done;
         }
         dn = vector.step(dn, 1);
         nn = vector.step(nn, 1);
@@ -45,43 +70,95 @@ pub(crate) fn mark_arithmetic(
     }
 }
 
-// Moves and sign changes: the marks are copied.
-pub(crate) fn mark_sign(ks: &mut [bool; 32], control: u32, double: bool, d: usize, m: usize)
-    requires { ⌜ (d < 32) × (m < 32) ⌝ }
-    ensures { λ _. ⌜ ((sign : SignOperation) → MarksIterated (iterationsOf (precision double) control d) (monadicStep (precision double) control (signStep (precision double) sign) d m) (now (ks .entry)) (now (ks .exit))) ⌝ }
+pub(crate) fn arithmetic_doubles(
+    marks: u64,
+    control: u32,
+    kind: Arithmetic,
+    d: Double,
+    n: Double,
+    m: Double,
+) -> u64
+    requires { ⌜ (d .0 < 32) × (n .0 < 32) × (m .0 < 32) ⌝ }
+    ensures { λ y. ⌜ MarksIterated (iterationsOf binary64 control (d .0)) (dyadicStep binary64 control kind (d .0) (n .0) (m .0)) marks y ⌝ }
 {
-    let vector = Vector::new(control, double, d);
+    let vector = Vector::new(control, true, d.0);
     let count = vector.iterations;
-    let mut dn = d;
-    let mut mn = m;
+    let mut done = marks;
+    let mut dn = d.0;
+    let mut nn = n.0;
+    let mut mn = m.0;
     let mut i: usize = 0;
     loop {
-        copy(ks, double, dn, mn);
+        done = arithmetic_double(done, kind, Double(dn), Double(nn), Double(mn));
         i += 1;
         if i >= count {
-            return;
+            return done;
+        }
+        dn = vector.step(dn, 1);
+        nn = vector.step(nn, 1);
+        mn = vector.second(mn, 1);
+    }
+}
+
+// Moves, sign changes and, in single precision, roots: the marks are copied.
+pub(crate) fn copy_singles(marks: u64, control: u32, d: Single, m: Single) -> u64
+    requires { ⌜ (d .0 < 32) × (m .0 < 32) ⌝ }
+    ensures { λ y. ⌜ ((one : ℕ → ℕ → Step) → Copies binary32 one → MarksIterated (iterationsOf binary32 control (d .0)) (monadicStep binary32 control one (d .0) (m .0)) marks y) ⌝ }
+{
+    let vector = Vector::new(control, false, d.0);
+    let count = vector.iterations;
+    let mut done = marks;
+    let mut dn = d.0;
+    let mut mn = m.0;
+    let mut i: usize = 0;
+    loop {
+        done = mark_single(done, Single(dn), single_known(done, Single(mn)));
+        i += 1;
+        if i >= count {
+            return done;
         }
         dn = vector.step(dn, 1);
         mn = vector.second(mn, 1);
     }
 }
 
-// Roots: the target is known when every word of the operand is.
-pub(crate) fn mark_root(ks: &mut [bool; 32], control: u32, double: bool, d: usize, m: usize)
-    requires { ⌜ (d < 32) × (m < 32) ⌝ }
-    ensures { λ _. ⌜ MarksIterated (iterationsOf (precision double) control d) (monadicStep (precision double) control (rootStep (precision double) control) d m) (now (ks .entry)) (now (ks .exit)) ⌝ }
+pub(crate) fn copy_doubles(marks: u64, control: u32, d: Double, m: Double) -> u64
+    requires { ⌜ (d .0 < 32) × (m .0 < 32) ⌝ }
+    ensures { λ y. ⌜ ((one : ℕ → ℕ → Step) → Copies binary64 one → MarksIterated (iterationsOf binary64 control (d .0)) (monadicStep binary64 control one (d .0) (m .0)) marks y) ⌝ }
 {
-    let vector = Vector::new(control, double, d);
+    let vector = Vector::new(control, true, d.0);
     let count = vector.iterations;
-    let mut dn = d;
-    let mut mn = m;
+    let mut done = marks;
+    let mut dn = d.0;
+    let mut mn = m.0;
     let mut i: usize = 0;
     loop {
-        let all = known(ks, double, mn);
-        mark(ks, double, dn, all);
+        done = copy_double(done, Double(dn), Double(mn));
         i += 1;
         if i >= count {
-            return;
+            return done;
+        }
+        dn = vector.step(dn, 1);
+        mn = vector.second(mn, 1);
+    }
+}
+
+// Roots: both words of the target are known when both of the operand are.
+pub(crate) fn root_doubles(marks: u64, control: u32, d: Double, m: Double) -> u64
+    requires { ⌜ (d .0 < 32) × (m .0 < 32) ⌝ }
+    ensures { λ y. ⌜ MarksIterated (iterationsOf binary64 control (d .0)) (monadicStep binary64 control (rootStep binary64 control) (d .0) (m .0)) marks y ⌝ }
+{
+    let vector = Vector::new(control, true, d.0);
+    let count = vector.iterations;
+    let mut done = marks;
+    let mut dn = d.0;
+    let mut mn = m.0;
+    let mut i: usize = 0;
+    loop {
+        done = mark_double(done, Double(dn), double_known(done, Double(mn)));
+        i += 1;
+        if i >= count {
+            return done;
         }
         dn = vector.step(dn, 1);
         mn = vector.second(mn, 1);

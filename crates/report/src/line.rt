@@ -4,10 +4,10 @@ ghost use mathlib.Core.List.{_++_};
 ghost use Prim.Native.Nat.{_%_, _^_};
 ghost use Rattle.machine.specs.Place.{number, core};
 ghost use Rattle.text.specs.Text.{textOf, clip};
-ghost use Rattle.place_values.specs.Place.{markedAt, wordAt};
+ghost use Rattle.bits.specs.Field.{bitOf};
+ghost use Rattle.place_values.specs.Place.{wordAt};
 ghost use Rattle.report.specs.Line.{wordText, lastText, r15Text, hungText, stopText, ranText};
 use machine::place::PC;
-use place_values::place::marked;
 use place_values::place::word;
 use text::text::Text;
 use text::text::low;
@@ -64,11 +64,11 @@ pub fn stop(
     address: u32,
     list: &[u32],
     state: &[u32],
-    marks: &[u8],
+    marks: u64,
 ) -> Text
-    ensures { λ r. ⌜ textOf r ≡ clip (stopText kind count place address (now (list .entry)) (markedAt (now (marks .entry)) (number (core 15))) (wordAt (now (state .entry)) (number (core 15)))) ⌝ }
+    ensures { λ r. ⌜ textOf r ≡ clip (stopText kind count place address (now (list .entry)) (bitOf marks (number (core 15))) (wordAt (now (state .entry)) (number (core 15)))) ⌝ }
 {
-    let known = marked(marks, PC);
+    let known = place_marks::place::is_known(marks, PC);
     let r15 = word(state, PC);
     let t = Text::new();
     if kind == 0 {

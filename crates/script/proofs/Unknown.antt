@@ -1,10 +1,10 @@
 -- Places that are unknown, one after the other, as a line names them.
-use Prim.Native.Nat.{ℕ, _+_}
+use Prim.Native.Nat.{ℕ, _+_, _-_, _≤_}
 use native.Mathlib.Omega.{arith}
 use mathlib.Core.Path.{_≡_, refl, sym, _∙_, ap}
 use mathlib.Core.Bool.{Bool, true, false, cond}
 use mathlib.Core.List.{List, [], _∷_}
-use lib.ListN.{drop}
+use lib.ListN.{drop, set}
 use lib.Seq.{drop-drop}
 use Rattle.numerals.specs.declared.number.Number.{Number}
 use Rattle.numerals.specs.declared.number.Number.the-variants.{Value, Wrong}
@@ -18,7 +18,22 @@ use Rattle.listing.proofs.Splitting.{words-none, words-one}
 use Rattle.script.specs.declared.item.Layout.{Layout}
 use Rattle.script.specs.declared.item.Step.the-variants as step
 use Rattle.script.specs.declared.mistake.Mistake.the-variants.{Item, Beyond}
-use Rattle.script.specs.Item.{Buffers, outcome, isPlace, unknownAt, unknownOutcome}
+use Rattle.machine.specs.Place.{before, place}
+use Rattle.meaning.specs.Map.{Map, mark}
+use Rattle.place_marks.specs.Word.{mapIn}
+use Rattle.place_marks.proofs.Places.{place-word}
+use Rattle.place_marks.proofs.Word.{mark-word}
+use Rattle.script.specs.Item.{Buffers, buffers, outcome, isPlace, unknownAt, unknownOutcome}
+
+-- a word of the window by its place's number
+pub window-unknown : (m : ℕ) (w : List ℕ) (p : ℕ) → before ≤ p → mapIn m (set w (p - before) 0) ≡ mark (mapIn m w) (place p) false
+window-unknown m w p h =
+    let e : before + (p - before) ≡ p = omega arith in
+    mark-word m w (p - before) false ∙ ap (λ q. mark (mapIn m w) q false) (sym (place-word (p - before)) ∙ ap place e)
+
+pub one-unknown : (p : ℕ) (s w l : List ℕ) (μ μ' : Map) → μ' ≡ mark μ (place p) false → buffers s μ' w l ≡ unknownAt p (buffers s μ w l)
+unfolding unknownAt
+one-unknown p s w l μ μ' e = ap (λ (z : Map). buffers s z w l) e
 
 -- what the next place says of a line
 module _ (n : ℕ) (l : List ℕ) where

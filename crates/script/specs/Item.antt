@@ -7,6 +7,7 @@ use lib.ListN.{drop, set}
 use Rattle.machine.specs.Place.{before, place}
 use Rattle.limits.specs.Limit.{mostList, mostWords, windowLimit}
 use Rattle.layout.specs.State.{inPosition}
+use Rattle.meaning.specs.Map.{Map, mark}
 use Rattle.listing.specs.declared.line.Item as listed
 use Rattle.listing.specs.declared.line.Item.the-variants as item
 use Rattle.listing.specs.declared.line.Expected.the-variants as expected
@@ -19,16 +20,15 @@ use Rattle.script.specs.declared.item.Step.the-variants.{On, Wrong}
 use Rattle.script.specs.declared.mistake.Mistake.{Mistake}
 use Rattle.script.specs.declared.mistake.Mistake.the-variants.{Item, Beyond, Words, Again, Refused}
 
--- the words and marks of the state and of the window, and the list
+-- the words of the state and of the window, the map that their marks hold, and the list
 pub record Buffers : Type 0 where
   pub state : List ℕ
-  pub marks : List ℕ
+  pub map : Map
   pub window : List ℕ
-  pub windowMarks : List ℕ
   pub list : List ℕ
 
-abbrev pub buffers : List ℕ → List ℕ → List ℕ → List ℕ → List ℕ → Buffers
-buffers s m w v l = record { state = s; marks = m; window = w; windowMarks = v; list = l }
+abbrev pub buffers : List ℕ → Map → List ℕ → List ℕ → Buffers
+buffers s μ w l = record { state = s; map = μ; window = w; list = l }
 
 -- what a line comes to: the layout after it or a mistake, and the buffers
 pub record Outcome : Type 0 where
@@ -42,7 +42,7 @@ outcome s b = record { step = s; buffers = b }
 unfoldable pub isPlace : ℕ → ℕ → Bool
 isPlace words p = cond (ltb p before) true (ltb (p - before) words)
 
--- a store to the window's words or marks, for which there is room for the most words
+-- a store to the window's words, for which there is room for the most words
 unfoldable pub store : List ℕ → ℕ → ℕ → List ℕ
 store l i x = cond (ltb i mostWords) (set l i x) l
 
@@ -50,21 +50,19 @@ store l i x = cond (ltb i mostWords) (set l i x) l
 unfoldable pub putAt : ℕ → ℕ → Buffers → Buffers
 putAt p x b =
     cond (ltb p before)
-    (buffers (set (b .state) p (inPosition (place p) (x % 2 ^ width (place p)))) (b .marks) (b .window) (b .windowMarks) (b .list))
-    (buffers (b .state) (b .marks) (store (b .window) (p - before) x) (b .windowMarks) (b .list))
+    (buffers (set (b .state) p (inPosition (place p) (x % 2 ^ width (place p)))) (b .map) (b .window) (b .list))
+    (buffers (b .state) (b .map) (store (b .window) (p - before) x) (b .list))
 
 -- a place that is unknown
 unfoldable pub unknownAt : ℕ → Buffers → Buffers
-unknownAt p b =
-    cond (ltb p before) (buffers (b .state) (set (b .marks) p 0) (b .window) (b .windowMarks) (b .list))
-    (buffers (b .state) (b .marks) (b .window) (store (b .windowMarks) (p - before) 0) (b .list))
+unknownAt p b = buffers (b .state) (mark (b .map) (place p) false) (b .window) (b .list)
 
 -- a word of the list
 unfoldable pub wordOutcome : ℕ → Layout → Buffers → Outcome
 wordOutcome x y b =
     cond (ltb (y .count) mostList)
     (outcome (On (record { base = y .base; words = y .words; given = y .given; count = y .count + 1 }))
-    (buffers (b .state) (b .marks) (b .window) (b .windowMarks) (set (b .list) (y .count) x)))
+    (buffers (b .state) (b .map) (b .window) (set (b .list) (y .count) x)))
     (outcome (Wrong Words) b)
 
 -- a place's value

@@ -1,13 +1,16 @@
 // What an item does to what the lines before it left.
 ghost use mathlib.Core.Path.{_≡_};
 ghost use mathlib.Core.List.{List};
+ghost use mathlib.Core.Bool.{false};
 ghost use Prim.Native.Nat.{ℕ, _%_, _^_};
-ghost use lib.ListN.{drop};
+ghost use lib.ListN.{drop, set};
 ghost use Rattle.machine.specs.Place.{place};
 ghost use Rattle.layout.specs.State.{inPosition};
+ghost use Rattle.meaning.specs.Map.{Map, mark};
+ghost use Rattle.place_marks.specs.Word.{mapIn};
 ghost use Rattle.place_names.specs.Place.{width};
 ghost use Rattle.tokens.specs.Token.{wordsOf};
-ghost use Rattle.script.specs.Item.{buffers, outcome, isPlace, store, putAt, unknownAt, wordOutcome, setOutcome, unknownOutcome, windowStep, lineOutcome};
+ghost use Rattle.script.specs.Item.{buffers, outcome, isPlace, store, putAt, wordOutcome, setOutcome, unknownOutcome, windowStep, lineOutcome};
 use super::mistake::Mistake;
 use limits::limit::window_limit;
 use listing::line::Expected;
@@ -19,6 +22,7 @@ use machine::place::CONTROL;
 use machine::place::FLAGS;
 use machine::place::NZCV;
 use machine::place::WINDOW;
+use place_marks::place::set_known;
 
 // The window's base and count of words, whether one was given, and the count of instruction words.
 pub struct Layout {
@@ -74,16 +78,17 @@ fn put_word(window: &mut [u32; 16384], i: usize, value: u32)
     }
 }
 
-fn put_mark(marks: &mut [u8; 16384], i: usize, mark: u8)
-    ensures { λ _. ⌜ now (marks .exit) ≡ store (now (marks .entry)) i mark ⌝ }
+// A word of the window that is unknown. Past the end there is no mark.
+fn clear_mark(marks: &mut [u8], i: usize)
+    ensures { λ _. ⌜ now (marks .exit) ≡ set (now (marks .entry)) i 0 ⌝ }
 {
-    if i < 16384 {
-        marks[i] = mark;
+    if i < marks.len() {
+        marks[i] = 0;
     }
 }
 
 fn put_place(state: &mut [u32; WINDOW], window: &mut [u32; 16384], p: usize, value: u32)
-    ensures { λ _. ⌜ ((m v l : List ℕ) → buffers (now (state .exit)) m (now (window .exit)) v l ≡ putAt p value (buffers (now (state .entry)) m (now (window .entry)) v l)) ⌝ }
+    ensures { λ _. ⌜ ((μ : Map) (l : List ℕ) → buffers (now (state .exit)) μ (now (window .exit)) l ≡ putAt p value (buffers (now (state .entry)) μ (now (window .entry)) l)) ⌝ }
 {
     if p < WINDOW {
         state[p] = in_position(p, value);
@@ -92,14 +97,14 @@ fn put_place(state: &mut [u32; WINDOW], window: &mut [u32; 16384], p: usize, val
     put_word(window, p - WINDOW, value);
 }
 
-fn mark_unknown(marks: &mut [u8; WINDOW], window_marks: &mut [u8; 16384], p: usize)
-    ensures { λ _. ⌜ ((s w l : List ℕ) → buffers s (now (marks .exit)) w (now («window_marks» .exit)) l ≡ unknownAt p (buffers s (now (marks .entry)) w (now («window_marks» .entry)) l)) ⌝ }
+fn mark_unknown(marks: &mut u64, window_marks: &mut [u8; 16384], p: usize)
+    ensures { λ _. ⌜ mapIn (now (marks .exit)) (now («window_marks» .exit)) ≡ mark (mapIn (now (marks .entry)) (now («window_marks» .entry))) (place p) false ⌝ }
 {
     if p < WINDOW {
-        marks[p] = 0;
+        *marks = set_known(*marks, p, false);
         return;
     }
-    put_mark(window_marks, p - WINDOW, 0);
+    clear_mark(window_marks, p - WINDOW);
 }
 
 fn set_place(
@@ -109,7 +114,7 @@ fn set_place(
     p: usize,
     value: u32,
 ) -> Step
-    ensures { λ r. ⌜ ((m v l : List ℕ) → outcome r (buffers (now (state .exit)) m (now (window .exit)) v l) ≡ setOutcome p value layout (buffers (now (state .entry)) m (now (window .entry)) v l)) ⌝ }
+    ensures { λ r. ⌜ ((μ : Map) (l : List ℕ) → outcome r (buffers (now (state .exit)) μ (now (window .exit)) l) ≡ setOutcome p value layout (buffers (now (state .entry)) μ (now (window .entry)) l)) ⌝ }
 {
     let words = layout.words;
     if is_place(words, p) {
@@ -122,12 +127,12 @@ fn set_place(
 // The places that a line names from a position on, up to the first mistake.
 fn mark_all_unknown(
     layout: Layout,
-    marks: &mut [u8; WINDOW],
+    marks: &mut u64,
     window_marks: &mut [u8; 16384],
     line: &[u8],
     from: usize,
 ) -> Step
-    ensures { λ r. ⌜ ((s w l : List ℕ) → outcome r (buffers s (now (marks .exit)) w (now («window_marks» .exit)) l) ≡ unknownOutcome (wordsOf (drop from (now (line .entry)))) layout (buffers s (now (marks .entry)) w (now («window_marks» .entry)) l)) ⌝ }
+    ensures { λ r. ⌜ ((s w l : List ℕ) → outcome r (buffers s (mapIn (now (marks .exit)) (now («window_marks» .exit))) w l) ≡ unknownOutcome (wordsOf (drop from (now (line .entry)))) layout (buffers s (mapIn (now (marks .entry)) (now («window_marks» .entry))) w l)) ⌝ }
 {
     let words = layout.words;
     let mut at = from;
@@ -171,7 +176,7 @@ fn set_window(layout: Layout, base: u32, words: usize) -> Step
 }
 
 fn add_word(layout: Layout, list: &mut [u32; 4096], word: u32) -> Step
-    ensures { λ r. ⌜ ((s m w v : List ℕ) → outcome r (buffers s m w v (now (list .exit))) ≡ wordOutcome word layout (buffers s m w v (now (list .entry)))) ⌝ }
+    ensures { λ r. ⌜ ((s w : List ℕ) (μ : Map) → outcome r (buffers s μ w (now (list .exit))) ≡ wordOutcome word layout (buffers s μ w (now (list .entry)))) ⌝ }
 {
     let n = layout.count;
     if n < 4096 {
@@ -191,12 +196,12 @@ pub fn take_line(
     layout: Layout,
     line: &[u8],
     state: &mut [u32; WINDOW],
-    marks: &mut [u8; WINDOW],
+    marks: &mut u64,
     window: &mut [u32; 16384],
     window_marks: &mut [u8; 16384],
     list: &mut [u32; 4096],
 ) -> Step
-    ensures { λ r. ⌜ outcome r (buffers (now (state .exit)) (now (marks .exit)) (now (window .exit)) (now («window_marks» .exit)) (now (list .exit))) ≡ lineOutcome (now (line .entry)) layout (buffers (now (state .entry)) (now (marks .entry)) (now (window .entry)) (now («window_marks» .entry)) (now (list .entry))) ⌝ }
+    ensures { λ r. ⌜ outcome r (buffers (now (state .exit)) (mapIn (now (marks .exit)) (now («window_marks» .exit))) (now (window .exit)) (now (list .exit))) ≡ lineOutcome (now (line .entry)) layout (buffers (now (state .entry)) (mapIn (now (marks .entry)) (now («window_marks» .entry))) (now (window .entry)) (now (list .entry))) ⌝ }
 {
     let item = item_of(line);
     match item {

@@ -1,5 +1,6 @@
 // What a text comes to.
 ghost use mathlib.Core.Path.{_≡_};
+ghost use Rattle.place_marks.specs.Word.{mapIn};
 ghost use Rattle.script.specs.Item.{buffers};
 ghost use Rattle.script.specs.Text.{reading, textReading};
 use super::item::Layout;
@@ -19,12 +20,12 @@ pub enum Taken {
 pub fn take(
     text: &[u8],
     state: &mut [u32; WINDOW],
-    marks: &mut [u8; WINDOW],
+    marks: &mut u64,
     window: &mut [u32; 16384],
     window_marks: &mut [u8; 16384],
     list: &mut [u32; 4096],
 ) -> Taken
-    ensures { λ r. ⌜ reading r (buffers (now (state .exit)) (now (marks .exit)) (now (window .exit)) (now («window_marks» .exit)) (now (list .exit))) ≡ textReading (now (text .entry)) (buffers (now (state .entry)) (now (marks .entry)) (now (window .entry)) (now («window_marks» .entry)) (now (list .entry))) ⌝ }
+    ensures { λ r. ⌜ reading r (buffers (now (state .exit)) (mapIn (now (marks .exit)) (now («window_marks» .exit))) (now (window .exit)) (now (list .exit))) ≡ textReading (now (text .entry)) (buffers (now (state .entry)) (mapIn (now (marks .entry)) (now («window_marks» .entry))) (now (window .entry)) (now (list .entry))) ⌝ }
 {
     let mut layout = Layout {
         base: 0,

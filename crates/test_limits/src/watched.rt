@@ -6,7 +6,6 @@ use super::kind;
 use bits::psr::Psr;
 use libc::STDOUT_FILENO;
 use machine::Machine;
-use meaning::Marks;
 
 // What came: no part of it is as a new machine has it.
 fn given(thumb: bool) -> Machine {
@@ -25,16 +24,8 @@ fn given(thumb: bool) -> Machine {
     }
 }
 
-fn given_marks() -> Marks {
-    Marks {
-        s: [true; 32],
-        r: [true; 16],
-        flags: false,
-        control: true,
-        exc: true,
-        nzcv: false,
-    }
-}
+// The marks that came: FPSCR 31:28 and NZCV are unknown, all else is known, and some bits above the last place are set.
+const GIVEN_MARKS: u64 = 0xA5B6_FFFF_FFFF_FFFF;
 
 fn all_are(words: &[u32], value: u32) -> bool {
     let mut i: usize = 0;
@@ -56,29 +47,12 @@ fn machine_as_given(m: Machine, thumb: bool) -> bool {
     parts & flags & all_are(&s, 0x3F80_0001) & all_are(&r, 0x1234_5678)
 }
 
-fn single_marks_as_given(s: [bool; 32]) -> bool {
-    for i in 0..32 {
-        if !s[i] {
-            return false;
-        }
+// A refused run leaves the word as it came; every other clears the bits above the last place.
+fn marks_as_given(marks: u64, kind: u64) -> bool {
+    if kind >= 100 {
+        return marks == GIVEN_MARKS;
     }
-    true
-}
-
-fn core_marks_as_given(r: [bool; 16]) -> bool {
-    for i in 0..16 {
-        if !r[i] {
-            return false;
-        }
-    }
-    true
-}
-
-fn marks_as_given(k: Marks) -> bool {
-    let s = k.s;
-    let r = k.r;
-    let rest = !k.flags & k.control & k.exc & !k.nzcv;
-    rest & single_marks_as_given(s) & core_marks_as_given(r)
+    marks == GIVEN_MARKS % 0x10_0000_0000_0000
 }
 
 fn window_marks_as_given(marks: &[u8], at: usize, mark: u8) -> bool {
@@ -160,17 +134,18 @@ pub fn answer_of(
     mark: u8,
 ) -> Seen {
     put(marks, at, mark);
-    let done = watch::watch(given(thumb), given_marks(), window, marks, base, list);
+    let done = watch::watch(given(thumb), GIVEN_MARKS, window, marks, base, list);
     let stop = done.stop;
     let count = done.count;
     let machine = done.machine;
     let known = done.marks;
+    let number = kind(stop);
     let same = machine_as_given(machine, thumb)
-        & marks_as_given(known)
+        & marks_as_given(known, number)
         & all_are(window, 0x5A5A_5A5A)
         & window_marks_as_given(marks, at, mark);
     Seen {
-        kind: kind(stop),
+        kind: number,
         count,
         same,
     }

@@ -1,4 +1,5 @@
-// A machine with a window of twelve words, and its map as a number of 64 bits: bit p is the mark of place p.
+// A machine with a window of twelve words, and its map as a number of 64 bits: bit p is the mark of place p. The window's bits stand above the
+// last place of the word of marks, so that a run has to ignore them and to clear them.
 use bits::psr::Psr;
 use machine::Machine;
 use machine::place::CONTROL;
@@ -7,7 +8,6 @@ use machine::place::EXC;
 use machine::place::FLAGS;
 use machine::place::NZCV;
 use machine::place::WINDOW;
-use meaning::Marks;
 use run_word::Stop;
 use watch::watch;
 
@@ -45,22 +45,6 @@ fn with(k: u64, p: usize, b: bool) -> u64 {
     k
 }
 
-fn singles_of(k: u64) -> [bool; 32] {
-    let mut s = [false; 32];
-    for i in 0..32 {
-        s[i] = at(k, i);
-    }
-    s
-}
-
-fn cores_of(k: u64) -> [bool; 16] {
-    let mut r = [false; 16];
-    for i in 0..16 {
-        r[i] = at(k, CORE + i);
-    }
-    r
-}
-
 fn byte_of(b: bool) -> u8 {
     if b { 1 } else { 0 }
 }
@@ -73,49 +57,12 @@ fn words_of(k: u64) -> [u8; 12] {
     w
 }
 
-fn marks_of(k: u64) -> Marks {
-    let s = singles_of(k);
-    let r = cores_of(k);
-    Marks {
-        s,
-        r,
-        flags: at(k, FLAGS),
-        control: at(k, CONTROL),
-        exc: at(k, EXC),
-        nzcv: at(k, NZCV),
-    }
-}
-
-fn add_singles(k: u64, s: [bool; 32]) -> u64 {
-    let mut x = k;
-    for i in 0..32 {
-        x = with(x, i, s[i]);
-    }
-    x
-}
-
-fn add_cores(k: u64, r: [bool; 16]) -> u64 {
-    let mut x = k;
-    for i in 0..16 {
-        x = with(x, CORE + i, r[i]);
-    }
-    x
-}
-
 fn add_words(k: u64, w: [u8; 12]) -> u64 {
     let mut x = k;
     for i in 0..12 {
         x = with(x, WINDOW + i, w[i] == 1);
     }
     x
-}
-
-fn map_of(m: Marks, w: [u8; 12]) -> u64 {
-    let s = m.s;
-    let r = m.r;
-    let a = add_words(add_cores(add_singles(0, s), r), w);
-    let b = with(with(a, FLAGS, m.flags), CONTROL, m.control);
-    with(with(b, EXC, m.exc), NZCV, m.nzcv)
 }
 
 fn kind_of(stop: Stop) -> u64 {
@@ -146,20 +93,11 @@ fn value_of(stop: Stop) -> u64 {
 
 pub fn watched(side: Side, k: u64, list: &[u32]) -> Outcome {
     let machine = side.machine;
-    let known = marks_of(k);
     let mut window = side.window;
     let mut marks = words_of(k);
-    let a = watch(
-        machine,
-        known,
-        &mut window[..],
-        &mut marks[..],
-        base(),
-        list,
-    );
+    let a = watch(machine, k, &mut window[..], &mut marks[..], base(), list);
     let stop = a.stop;
     let left = a.machine;
-    let after = a.marks;
     let side = Side {
         machine: left,
         window,
@@ -169,7 +107,7 @@ pub fn watched(side: Side, k: u64, list: &[u32]) -> Outcome {
         value: value_of(stop),
         count: a.count as u64,
         side,
-        known: map_of(after, marks),
+        known: add_words(a.marks, marks),
     }
 }
 

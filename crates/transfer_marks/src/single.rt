@@ -4,24 +4,24 @@ ghost use mathlib.Core.Bool.{Bool};
 ghost use mathlib.Core.List.{List};
 ghost use Prim.Native.Nat.{ℕ};
 ghost use Rattle.machine.specs.Place.{State};
-ghost use Rattle.meaning.specs.declared.Known.{Known};
-ghost use Rattle.meaning.specs.Map.{mapFrom};
 ghost use Rattle.meaning.specs.Hang.{marked};
 ghost use Rattle.transfers.specs.Transfer.{singleTree};
+ghost use Rattle.place_marks.specs.Word.{mapIn};
 use bits::field::bit;
 use bits::field::bits;
 use machine::registers::sreg;
-use place_marks::places::mark_single;
-use place_marks::places::single_known;
+use place_marks::registers::core_known;
+use place_marks::registers::mark_core;
+use place_marks::registers::mark_single;
+use place_marks::registers::single_known;
 
-pub fn mark_single_core(ks: &mut [bool; 32], kr: &mut [bool; 16], op: u32)
-    ensures { λ _. ⌜ ((thumb : Bool) (k : Known) (st : State) (w : List ℕ) → mapFrom (now (ks .exit)) (now (kr .exit)) k w ≡ marked (singleTree thumb op) st (mapFrom (now (ks .entry)) (now (kr .entry)) k w)) ⌝ }
+pub fn mark_single_core(marks: u64, op: u32) -> u64
+    ensures { λ y. ⌜ ((thumb : Bool) (st : State) (w : List ℕ) → mapIn y w ≡ marked (singleTree thumb op) st (mapIn marks w)) ⌝ }
 {
     let rt = bits(op, 12, 15) as usize;
     let sn = sreg(bits(op, 16, 19), bits(op, 7, 7));
     if bit(op, 20) {
-        kr[rt] = single_known(ks, sn);
-        return;
+        return mark_core(marks, rt, single_known(marks, sn));
     }
-    mark_single(ks, sn, kr[rt]);
+    mark_single(marks, sn, core_known(marks, rt))
 }

@@ -1,73 +1,64 @@
 // VMSR and VMRS, opc1 = 7.
 ghost use mathlib.Core.Path.{_≡_};
-ghost use mathlib.Core.Bool.{Bool};
 ghost use mathlib.Core.List.{List};
 ghost use Prim.Native.Nat.{ℕ};
 ghost use Rattle.machine.specs.Place.{Place, State};
-ghost use Rattle.meaning.specs.Map.{mapFrom};
 ghost use Rattle.meaning.specs.Step.{allKnown};
 ghost use Rattle.meaning.specs.Hang.{marked};
 ghost use Rattle.transfers.specs.Transfer.{readSystem, readFlags, systemTree};
+ghost use Rattle.place_marks.specs.Word.{mapIn};
 use bits::field::bit;
 use bits::field::bits;
-use meaning::Known;
+use machine::place::CONTROL;
+use machine::place::EXC;
+use machine::place::FLAGS;
+use machine::place::NZCV;
+use place_marks::place::is_known;
+use place_marks::place::set_known;
+use place_marks::registers::core_known;
+use place_marks::registers::mark_core;
 
-// The marks that are no array, as the transfer leaves them.
-pub fn mark_system(kr: &mut [bool; 16], k: Known, op: u32) -> Known
-    ensures { λ y. ⌜ ((s : List Bool) (st : State) (w : List ℕ) → mapFrom s (now (kr .exit)) y w ≡ marked (systemTree op) st (mapFrom s (now (kr .entry)) k w)) ⌝ }
+pub fn mark_system(marks: u64, op: u32) -> u64
+    ensures { λ y. ⌜ ((st : State) (w : List ℕ) → mapIn y w ≡ marked (systemTree op) st (mapIn marks w)) ⌝ }
 {
     let rt = bits(op, 12, 15) as usize;
     let reg = bits(op, 16, 19);
     if bit(op, 20) {
         if rt == 15 {
-            return Known {
-                flags: k.flags,
-                control: k.control,
-                exc: k.exc,
-                nzcv: flags_known(k, reg),
-            };
+            return set_known(marks, NZCV, flags_known(marks, reg));
         }
-        kr[rt] = value_known(k, reg);
-        return k;
+        return mark_core(marks, rt, value_known(marks, reg));
     }
-    let b = kr[rt];
+    let b = core_known(marks, rt);
     if reg == 1 {
-        return Known {
-            flags: b,
-            control: b,
-            exc: k.exc,
-            nzcv: k.nzcv,
-        };
+        // Both parts of FPSCR alike.
+        let y = set_known(marks, FLAGS, b);
+        return set_known(y, CONTROL, b);
     }
     if reg == 8 {
-        return Known {
-            flags: k.flags,
-            control: k.control,
-            exc: b,
-            nzcv: k.nzcv,
-        };
+        return set_known(marks, EXC, b);
     }
-    k
+    marks
 }
 
 // A read of FPSCR needs both its parts; what is constant is known.
-fn value_known(k: Known, reg: u32) -> bool
-    ensures { λ b. ⌜ ((s r : List Bool) (w : List ℕ) (p : Place) → b ≡ allKnown (mapFrom s r k w) (readSystem reg p .sources)) ⌝ }
+fn value_known(marks: u64, reg: u32) -> bool
+    ensures { λ b. ⌜ ((w : List ℕ) (p : Place) → b ≡ allKnown (mapIn marks w) (readSystem reg p .sources)) ⌝ }
 {
     match reg {
-        1 => k.control & k.flags,
-        8 => k.exc,
+        1 => is_known(marks, CONTROL) & is_known(marks, FLAGS),
+        8 => is_known(marks, EXC),
         _ => true,
     }
 }
 
 // Of FPSCR bits 31:28 go to NZCV.
-fn flags_known(k: Known, reg: u32) -> bool
-    ensures { λ b. ⌜ ((s r : List Bool) (w : List ℕ) → b ≡ allKnown (mapFrom s r k w) (readFlags reg .sources)) ⌝ }
+fn flags_known(marks: u64, reg: u32) -> bool
+    ensures { λ b. ⌜ ((w : List ℕ) → b ≡ allKnown (mapIn marks w) (readFlags reg .sources)) ⌝ }
 {
     match reg {
-        1 => k.flags,
-        8 => k.exc,
+        1 => is_known(marks, FLAGS),
+        8 => is_known(marks, EXC),
         _ => true,
     }
 }

@@ -13,10 +13,16 @@ use Rattle.meaning.specs.Agree as A
 use Rattle.meaning.proofs.TwoRuns.{two-runs}
 use Rattle.meaning.proofs.Prefix.{prefix}
 use Rattle.limits.proofs.Limits.{run-within, marks-within, shorter}
+use Rattle.place_marks.specs.Word.{mapIn}
+use Rattle.place_marks.proofs.Word.{singles-marked, cores-marked}
 use Rattle.run_word.specs.Word.{meaning}
 use Rattle.watch.specs.Watch.{reply, limitOf, watchReply}
 use Rattle.watch.specs.Demand.{Agree, Alike, Mapped, Plainly, Demand3}
 use Rattle.watch.proofs.Places.{by-place}
+
+-- a word holds as many marks as there are places before the window
+pub mapped : (m : ℕ) (words : List ℕ) → Mapped (mapIn m words)
+mapped m words = record { s = singles-marked m words; r = cores-marked m words }
 
 -- ---- within the limits the answer is the watched run's
 

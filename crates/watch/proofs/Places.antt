@@ -1,44 +1,14 @@
 -- Places by their numbers: what holds of each known place by its number holds of each known place.
-use Prim.Native.Nat.{ℕ, _+_, _-_, _<_}
+use Prim.Native.Nat.{ℕ, _+_, _<_}
 use native.Mathlib.Omega.{arith}
 use native.Mathlib.Decide.{decLt}
-use mathlib.Core.Path.{_≡_, refl, sym, _∙_, subst}
+use mathlib.Core.Path.{_≡_, sym, _∙_, subst}
 use mathlib.Core.Bool.{true, false, true≢false}
 use lib.ListN.{List·getD-eq-default}
-use borrow.Author.Tests.{lt-ltb, le-ltb}
 use Rattle.machine.specs.Place.{Place, single, core, word, flags, control, exc, nzcv, before, number, place}
 use Rattle.meaning.specs.Map.{Map, known}
+use Rattle.place_marks.proofs.Places.{place-single, place-core, place-word, place-flags, place-control, place-exc, place-nzcv}
 use Rattle.watch.specs.Demand.{Mapped}
-
-place-single : (n : ℕ) → n < 32 → place n ≡ single n
-unfolding place
-place-single n h = rw (lt-ltb n 32 h)
-
-place-core : (n : ℕ) → n < 16 → place (32 + n) ≡ core n
-unfolding place
-place-core n h = let e : 32 + n - 32 ≡ n = omega arith in rw (le-ltb (32 + n) 32 (omega arith), lt-ltb (32 + n) 48 (omega arith), e)
-
-place-word : (n : ℕ) → place (before + n) ≡ word n
-unfolding place
-place-word n =
-    let e : before + n - before ≡ n = omega arith in
-    rw (le-ltb (before + n) 32 (omega arith), le-ltb (before + n) 48 (omega arith), le-ltb (before + n) 49 (omega arith), le-ltb (before + n) 50 (omega arith), le-ltb (before + n) 51 (omega arith), le-ltb (before + n) before (omega arith), e)
-
-place-flags : place (number flags) ≡ flags
-unfolding place
-place-flags = refl
-
-place-control : place (number control) ≡ control
-unfolding place
-place-control = refl
-
-place-exc : place (number exc) ≡ exc
-unfolding place
-place-exc = refl
-
-place-nzcv : place (number nzcv) ≡ nzcv
-unfolding place
-place-nzcv = refl
 
 -- past the registers nothing is marked known
 module _ (μ : Map) (sized : Mapped μ) (P : Place → Type 0) (f : (n : ℕ) → known μ (place n) ≡ true → P (place n)) where

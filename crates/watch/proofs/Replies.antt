@@ -1,5 +1,7 @@
 -- From the words' promises to the watched run's.
-use Prim.Native.Nat.{ℕ}
+use Prim.Native.Nat.{ℕ, _%_, _^_, _<_}
+use native.Mathlib.Nat.{mod-mod, mod-lt}
+use lib.Pow.{pow-pos}
 use mathlib.Core.Path.{_≡_, ap}
 use mathlib.Core.Bool.{false}
 use mathlib.Core.List.{List}
@@ -7,10 +9,10 @@ use Rattle.machine.specs.declared.Machine.{Machine}
 use Rattle.machine.specs.declared.Controls.{Controls}
 use Rattle.machine.specs.Machine.{assembled, controlsOf}
 use Rattle.machine.specs.Place.{state}
-use Rattle.meaning.specs.declared.Marks.{Marks}
-use Rattle.meaning.specs.declared.Known.{Known}
-use Rattle.meaning.specs.Map.{Map, mapOf, mapFrom, knownOf}
+use Rattle.meaning.specs.Map.{Map}
 use Rattle.meaning.specs.Tree.{Tree}
+use Rattle.place_marks.specs.Word.{mapIn}
+use Rattle.place_marks.proofs.Word.{same-map}
 use Rattle.run_word.specs.declared.Stop.{Stop}
 use Rattle.run_word.specs.Stop.{stopOf}
 use Rattle.run.proofs.Replies.{whole}
@@ -18,14 +20,17 @@ use Rattle.watch.specs.declared.Watched.{Watched}
 use Rattle.watch.specs.Watch.{answered, reply}
 use Rattle.meaning.specs.Run as R
 
--- an answer of these parts
-pub answered-as : (a : Watched) (stop : Stop) (count : ℕ) (m : Machine) (k : Marks) (v w : List ℕ) (e : R.Watched)
-    → (a .stop ≡ stop) × (a .count ≡ count) × (a .machine ≡ m) × (a .marks ≡ k)
-    → R.endedWith (state m v) (mapOf k w) count (stopOf stop) ≡ e → answered a v w ≡ reply e
-answered-as a stop count m k v w e p q = rw (p .0, p .1, p .2, p .3) (ap reply q)
+-- an answer of these parts: the bits above the last place are cut off
+pub answered-as : (a : Watched) (stop : Stop) (count : ℕ) (m : Machine) (k : ℕ) (v w : List ℕ) (e : R.Watched)
+    → (a .stop ≡ stop) × (a .count ≡ count) × (a .machine ≡ m) × (a .marks ≡ k % 2 ^ 52)
+    → R.endedWith (state m v) (mapIn k w) count (stopOf stop) ≡ e → (answered a v w ≡ reply e) × (a .marks < 2 ^ 52)
+answered-as a stop count m k v w e p q = (
+  rw (p .0, p .1, p .2, p .3, same-map (k % 2 ^ 52) k w (mod-mod k (2 ^ 52))) (ap reply q),
+  rw (p .3) (mod-lt k (pow-pos 52)),
+)
 
--- the run begins with the machine and the marks in their parts
-pub begun : (M : ℕ → Tree) (list : List ℕ) (m : Machine) (k : Marks) (v w s r : List ℕ) (x : Controls) (y : Known)
-    → m .thumb ≡ false → s ≡ m .s → r ≡ m .r → x ≡ controlsOf m → y ≡ knownOf k
-    → R.watch M list 0 (state (assembled s r x false) v) (mapFrom (k .s) (k .r) y w) ≡ R.watch M list 0 (state m v) (mapOf k w)
-begun M list m k v w s r x y t p q e f = rw (p, q, e, f, whole m t)
+-- the run begins with the machine in its parts
+pub begun : (M : ℕ → Tree) (list : List ℕ) (m : Machine) (μ : Map) (v s r : List ℕ) (x : Controls)
+    → m .thumb ≡ false → s ≡ m .s → r ≡ m .r → x ≡ controlsOf m
+    → R.watch M list 0 (state (assembled s r x false) v) μ ≡ R.watch M list 0 (state m v) μ
+begun M list m μ v s r x t p q e = rw (p, q, e, whole m t)

@@ -1,17 +1,16 @@
 // The watched run: the plain run with a map, which stops where the outcome would hang on an unknown place.
 ghost use mathlib.Core.Path.{_≡_};
 ghost use mathlib.Core.Bool.{false};
+ghost use Prim.Native.Nat.{_%_, _^_, _<_};
 ghost use Rattle.machine.specs.Place.{state};
 ghost use Rattle.machine.specs.Machine.{assembled};
-ghost use Rattle.meaning.specs.Map.{mapOf, marksFrom, knownOf};
 ghost use Rattle.meaning.specs.Run as R;
+ghost use Rattle.place_marks.specs.Word.{mapIn};
 ghost use Rattle.run_word.specs.Word.{meaning};
 ghost use Rattle.watch.specs.Watch.{answered, reply};
-ghost use Rattle.watch.specs.Promise.{Promise};
+ghost use Rattle.watch.specs.Promise.{Promise, WordPromise};
 use limits::limit::watch_limit;
 use machine::Machine;
-use meaning::Known;
-use meaning::Marks;
 use progress::Progress;
 use run_word::Next;
 use run_word::Stop;
@@ -23,19 +22,20 @@ pub struct Watched {
     pub stop: Stop,
     pub count: usize,
     pub machine: Machine,
-    pub marks: Marks,
+    pub marks: u64,
 }
 
-// Runs a list of words over a window from a base on, with the marks of the places before the window by value and the window's lent.
+// Runs a list of words over a window from a base on, with the marks of the places before the window as a word, bit p for place p, and the
+// window's lent. Bits above the last place are ignored.
 pub fn watch(
     machine: Machine,
-    marks: Marks,
+    marks: u64,
     window: &mut [u32],
     window_marks: &mut [u8],
     base: u32,
     list: &[u32],
 ) -> Watched
-    ensures { λ a. ⌜ Promise base (now (list .entry)) (state machine (now (window .entry))) (mapOf marks (now («window_marks» .entry))) (answered a (now (window .exit)) (now («window_marks» .exit))) ⌝ }
+    ensures { λ a. ⌜ Promise base (now (list .entry)) (state machine (now (window .entry))) (mapIn marks (now («window_marks» .entry))) (answered a (now (window .exit)) (now («window_marks» .exit))) × WordPromise base (now (list .entry)) (state machine (now (window .entry))) marks (now («window_marks» .entry)) (answered a (now (window .exit)) (now («window_marks» .exit))) (a .marks) ⌝ }
 {
     let limit = watch_limit(list.len(), base, window.len(), machine.thumb, window_marks);
     if limit != 0 {
@@ -52,44 +52,26 @@ pub fn watch(
 // The watched run within the limits. Registers and marks are locals that are lent to each word.
 fn watch_words(
     machine: Machine,
-    marks: Marks,
+    marks: u64,
     window: &mut [u32],
     window_marks: &mut [u8],
     base: u32,
     list: &[u32],
 ) -> Watched
     requires { ⌜ machine .thumb ≡ false ⌝ }
-    ensures { λ a. ⌜ answered a (now (window .exit)) (now («window_marks» .exit)) ≡ reply (R.watch (meaning base) (now (list .entry)) 0 (state machine (now (window .entry))) (mapOf marks (now («window_marks» .entry)))) ⌝ }
+    ensures { λ a. ⌜ (answered a (now (window .exit)) (now («window_marks» .exit)) ≡ reply (R.watch (meaning base) (now (list .entry)) 0 (state machine (now (window .entry))) (mapIn marks (now («window_marks» .entry))))) × (a .marks < 2 ^ 52) ⌝ }
 {
     let begun = Progress::new(machine);
     let mut s = begun.s;
     let mut r = begun.r;
     let mut x = begun.controls;
-    let mut ks = marks.s;
-    let mut kr = marks.r;
-    let mut k = known_of(marks);
+    let mut known = marks;
     let mut i: usize = 0;
     while i < list.len() {
         let op = list[i];
-        let done = watch_word(
-            &mut s,
-            &mut r,
-            x,
-            window,
-            &mut ks,
-            &mut kr,
-            k,
-            window_marks,
-            base,
-            op,
-        );
+        let done = watch_word(&mut s, &mut r, x, window, known, window_marks, base, op);
         x = done.controls;
-        k = Known {
-            flags: done.flags,
-            control: done.control,
-            exc: done.exc,
-            nzcv: done.nzcv,
-        };
+        known = done.marks;
         let next = done.next;
         match next {
             Next::On => {
@@ -98,53 +80,27 @@ fn watch_words(
             }
             Next::Last => {
                 let left = Progress { s, r, controls: x };
-                return ended(left, ks, kr, k, Stop::Branched, i + 1);
+                return ended(left, known, Stop::Branched, i + 1);
             }
             Next::Halt(stop) => {
                 let left = Progress { s, r, controls: x };
-                return ended(left, ks, kr, k, stop, i);
+                return ended(left, known, stop, i);
             }
         }
     }
     let left = Progress { s, r, controls: x };
-    ended(left, ks, kr, k, Stop::Finished, i)
+    ended(left, known, Stop::Finished, i)
 }
 
-// The marks that are no array.
-fn known_of(marks: Marks) -> Known
-    ensures { λ k. ⌜ k ≡ knownOf marks ⌝ }
-{
-    Known {
-        flags: marks.flags,
-        control: marks.control,
-        exc: marks.exc,
-        nzcv: marks.nzcv,
-    }
-}
-
-// Hands the machine and the marks back with the stop and the count.
-fn ended(
-    left: Progress,
-    ks: [bool; 32],
-    kr: [bool; 16],
-    k: Known,
-    stop: Stop,
-    count: usize,
-) -> Watched
-    ensures { λ a. ⌜ (a .stop ≡ stop) × (a .count ≡ count) × (a .machine ≡ assembled (left .s) (left .r) (left .controls) false) × (a .marks ≡ marksFrom ks kr k) ⌝ }
+// Hands the machine and the marks back with the stop and the count. No bit stays above the last place.
+fn ended(left: Progress, marks: u64, stop: Stop, count: usize) -> Watched
+    ensures { λ a. ⌜ (a .stop ≡ stop) × (a .count ≡ count) × (a .machine ≡ assembled (left .s) (left .r) (left .controls) false) × (a .marks ≡ marks % 2 ^ 52) ⌝ }
 {
     let machine = left.machine();
     Watched {
         stop,
         count,
         machine,
-        marks: Marks {
-            s: ks,
-            r: kr,
-            flags: k.flags,
-            control: k.control,
-            exc: k.exc,
-            nzcv: k.nzcv,
-        },
+        marks: marks % 0x10_0000_0000_0000,
     }
 }

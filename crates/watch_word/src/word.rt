@@ -6,15 +6,13 @@ ghost use Prim.Native.Nat.{ℕ};
 ghost use Rattle.machine.specs.declared.Controls.{Controls};
 ghost use Rattle.machine.specs.Machine.{assembled};
 ghost use Rattle.machine.specs.Place.{state};
-ghost use Rattle.meaning.specs.declared.Known.{Known};
-ghost use Rattle.meaning.specs.Map.{mapFrom};
 ghost use Rattle.meaning.specs.Tree.{seen, watched};
+ghost use Rattle.place_marks.specs.Word.{mapIn};
 ghost use Rattle.processing.specs.Data.{dataTree};
 ghost use Rattle.memory.specs.LoadStore.{loadStoreTree};
 ghost use Rattle.transfers.specs.Transfer.{transferTree};
 ghost use Rattle.run_word.specs.Word.{classTree, meaning};
 ghost use Rattle.run_word.specs.Stop.{nextOf};
-ghost use Rattle.watch_word.specs.Seen.{marksOf};
 use access_marks::mark_load_store;
 use bits::field::bit;
 use bits::field::bits;
@@ -24,7 +22,7 @@ use hangs::access::hang_access;
 use hangs::data::hang_data;
 use machine::Controls;
 use machine::place::NZCV;
-use meaning::Known;
+use place_marks::place::is_known;
 use processing::Processed;
 use processing_marks::mark_data;
 use run_word::Next;
@@ -38,14 +36,10 @@ use transfers::system::system;
 use transfers::transfer_of;
 use vfp::current_pc;
 
-// What is no array of the machine and of the marks after a word, and what follows it. The marks stand one by one: a `Known` in here would be
-// packed into one number and taken apart again at every word.
+// What is no array of the machine, the marks and what follows, after a word.
 pub struct Seen {
     pub controls: Controls,
-    pub flags: bool,
-    pub control: bool,
-    pub exc: bool,
-    pub nzcv: bool,
+    pub marks: u64,
     pub next: Next,
 }
 
@@ -55,34 +49,26 @@ pub fn watch_word(
     r: &mut [u32; 16],
     x: Controls,
     window: &mut [u32],
-    ks: &mut [bool; 32],
-    kr: &mut [bool; 16],
-    k: Known,
+    marks: u64,
     window_marks: &mut [u8],
     base: u32,
     op: u32,
 ) -> Seen
-    ensures { λ e. ⌜ seen (state (assembled (now (s .exit)) (now (r .exit)) (e .controls) false) (now (window .exit))) (mapFrom (now (ks .exit)) (now (kr .exit)) (marksOf e) (now («window_marks» .exit))) (nextOf (e .next)) ≡ watched (meaning base op) (state (assembled (now (s .entry)) (now (r .entry)) x false) (now (window .entry))) (mapFrom (now (ks .entry)) (now (kr .entry)) k (now («window_marks» .entry))) ⌝ }
+    ensures { λ e. ⌜ seen (state (assembled (now (s .exit)) (now (r .exit)) (e .controls) false) (now (window .exit))) (mapIn (e .marks) (now («window_marks» .exit))) (nextOf (e .next)) ≡ watched (meaning base op) (state (assembled (now (s .entry)) (now (r .entry)) x false) (now (window .entry))) (mapIn marks (now («window_marks» .entry))) ⌝ }
 {
     if foreign(op) {
         return Seen {
             controls: x,
-            flags: k.flags,
-            control: k.control,
-            exc: k.exc,
-            nzcv: k.nzcv,
+            marks,
             next: Next::Halt(Stop::Foreign),
         };
     }
     let condition = bits(op, 28, 31);
     if condition != 14 {
-        if !k.nzcv {
+        if !is_known(marks, NZCV) {
             return Seen {
                 controls: x,
-                flags: k.flags,
-                control: k.control,
-                exc: k.exc,
-                nzcv: k.nzcv,
+                marks,
                 next: Next::Halt(Stop::Hangs(NZCV)),
             };
         }
@@ -90,15 +76,12 @@ pub fn watch_word(
         if !check_condition(condition, flags) {
             return Seen {
                 controls: x,
-                flags: k.flags,
-                control: k.control,
-                exc: k.exc,
-                nzcv: k.nzcv,
+                marks,
                 next: Next::On, // skipped, and counted
             };
         }
     }
-    watch_class(s, r, x, window, ks, kr, k, window_marks, base, op)
+    watch_class(s, r, x, window, marks, window_marks, base, op)
 }
 
 // A word whose condition holds, by its class.
@@ -107,137 +90,104 @@ fn watch_class(
     r: &mut [u32; 16],
     x: Controls,
     window: &mut [u32],
-    ks: &mut [bool; 32],
-    kr: &mut [bool; 16],
-    k: Known,
+    marks: u64,
     window_marks: &mut [u8],
     base: u32,
     op: u32,
 ) -> Seen
-    ensures { λ e. ⌜ seen (state (assembled (now (s .exit)) (now (r .exit)) (e .controls) false) (now (window .exit))) (mapFrom (now (ks .exit)) (now (kr .exit)) (marksOf e) (now («window_marks» .exit))) (nextOf (e .next)) ≡ watched (classTree base op) (state (assembled (now (s .entry)) (now (r .entry)) x false) (now (window .entry))) (mapFrom (now (ks .entry)) (now (kr .entry)) k (now («window_marks» .entry))) ⌝ }
+    ensures { λ e. ⌜ seen (state (assembled (now (s .exit)) (now (r .exit)) (e .controls) false) (now (window .exit))) (mapIn (e .marks) (now («window_marks» .exit))) (nextOf (e .next)) ≡ watched (classTree base op) (state (assembled (now (s .entry)) (now (r .entry)) x false) (now (window .entry))) (mapIn marks (now («window_marks» .entry))) ⌝ }
 {
     if bits(op, 25, 27) == 0b110 {
-        let next = watch_access(s, r, window, ks, kr, window_marks, base, op);
-        return Seen {
-            controls: x,
-            flags: k.flags,
-            control: k.control,
-            exc: k.exc,
-            nzcv: k.nzcv,
-            next,
-        };
+        return watch_access(s, r, x, window, marks, window_marks, base, op);
     }
     if bit(op, 4) {
-        return watch_transfer(s, r, x, ks, kr, k, op);
+        return watch_transfer(s, r, x, marks, op);
     }
-    watch_data(s, r, x, ks, kr, k, op)
+    watch_data(s, r, x, marks, op)
 }
 
 // A load or store hangs on its base register.
 fn watch_access(
     s: &mut [u32; 32],
     r: &mut [u32; 16],
+    x: Controls,
     window: &mut [u32],
-    ks: &mut [bool; 32],
-    kr: &mut [bool; 16],
+    marks: u64,
     window_marks: &mut [u8],
     base: u32,
     op: u32,
-) -> Next
-    ensures { λ n. ⌜ ((x : Controls) (k : Known) → seen (state (assembled (now (s .exit)) (now (r .exit)) x false) (now (window .exit))) (mapFrom (now (ks .exit)) (now (kr .exit)) k (now («window_marks» .exit))) (nextOf n) ≡ watched (loadStoreTree base op) (state (assembled (now (s .entry)) (now (r .entry)) x false) (now (window .entry))) (mapFrom (now (ks .entry)) (now (kr .entry)) k (now («window_marks» .entry)))) ⌝ }
+) -> Seen
+    ensures { λ e. ⌜ seen (state (assembled (now (s .exit)) (now (r .exit)) (e .controls) false) (now (window .exit))) (mapIn (e .marks) (now («window_marks» .exit))) (nextOf (e .next)) ≡ watched (loadStoreTree base op) (state (assembled (now (s .entry)) (now (r .entry)) x false) (now (window .entry))) (mapIn marks (now («window_marks» .entry))) ⌝ }
 {
-    let hang = hang_access(kr, op);
+    let hang = hang_access(marks, op);
     match hang {
-        Hang::At(place) => Next::Halt(Stop::Hangs(place)),
+        Hang::At(place) => Seen {
+            controls: x,
+            marks,
+            next: Next::Halt(Stop::Hangs(place)),
+        },
         Hang::Clear => {
-            mark_load_store(ks, kr, window_marks, r, base, op);
+            let known = mark_load_store(marks, window_marks, r, base, op);
             memory::coprocessor_load_store(s, r, window, base, op);
-            Next::On
+            Seen {
+                controls: x,
+                marks: known,
+                next: Next::On,
+            }
         }
     }
 }
 
 // A transfer never hangs. Its two kinds are called directly, as in the plain run.
-fn watch_transfer(
-    s: &mut [u32; 32],
-    r: &mut [u32; 16],
-    x: Controls,
-    ks: &mut [bool; 32],
-    kr: &mut [bool; 16],
-    k: Known,
-    op: u32,
-) -> Seen
-    ensures { λ e. ⌜ ((v w : List ℕ) → seen (state (assembled (now (s .exit)) (now (r .exit)) (e .controls) false) v) (mapFrom (now (ks .exit)) (now (kr .exit)) (marksOf e) w) (nextOf (e .next)) ≡ watched (transferTree false op) (state (assembled (now (s .entry)) (now (r .entry)) x false) v) (mapFrom (now (ks .entry)) (now (kr .entry)) k w)) ⌝ }
+fn watch_transfer(s: &mut [u32; 32], r: &mut [u32; 16], x: Controls, marks: u64, op: u32) -> Seen
+    ensures { λ e. ⌜ ((v w : List ℕ) → seen (state (assembled (now (s .exit)) (now (r .exit)) (e .controls) false) v) (mapIn (e .marks) w) (nextOf (e .next)) ≡ watched (transferTree false op) (state (assembled (now (s .entry)) (now (r .entry)) x false) v) (mapIn marks w)) ⌝ }
 {
     let transfer = transfer_of(op);
     match transfer {
         Transfer::System => {
-            let known = mark_system(kr, k, op);
+            let known = mark_system(marks, op);
             Seen {
                 controls: system(r, x, op),
-                flags: known.flags,
-                control: known.control,
-                exc: known.exc,
-                nzcv: known.nzcv,
+                marks: known,
                 next: Next::On,
             }
         }
         Transfer::Single => {
-            mark_single_core(ks, kr, op);
+            let known = mark_single_core(marks, op);
             if single_core(s, r, false, op) {
                 return Seen {
                     controls: x,
-                    flags: k.flags,
-                    control: k.control,
-                    exc: k.exc,
-                    nzcv: k.nzcv,
+                    marks: known,
                     next: Next::Last,
                 };
             }
             Seen {
                 controls: x,
-                flags: k.flags,
-                control: k.control,
-                exc: k.exc,
-                nzcv: k.nzcv,
+                marks: known,
                 next: Next::On,
             }
         }
         Transfer::Nothing => Seen {
             controls: x,
-            flags: k.flags,
-            control: k.control,
-            exc: k.exc,
-            nzcv: k.nzcv,
+            marks,
             next: Next::On,
         },
     }
 }
 
 // Data processing hangs on r15 where it is Undefined, and on FPSCR 27:0 where it steps.
-fn watch_data(
-    s: &mut [u32; 32],
-    r: &[u32; 16],
-    x: Controls,
-    ks: &mut [bool; 32],
-    kr: &[bool; 16],
-    k: Known,
-    op: u32,
-) -> Seen
-    ensures { λ e. ⌜ ((v w : List ℕ) → seen (state (assembled (now (s .exit)) (now (r .entry)) (e .controls) false) v) (mapFrom (now (ks .exit)) (now (kr .entry)) (marksOf e) w) (nextOf (e .next)) ≡ watched (dataTree false op) (state (assembled (now (s .entry)) (now (r .entry)) x false) v) (mapFrom (now (ks .entry)) (now (kr .entry)) k w)) ⌝ }
+fn watch_data(s: &mut [u32; 32], r: &[u32; 16], x: Controls, marks: u64, op: u32) -> Seen
+    ensures { λ e. ⌜ ((v w : List ℕ) → seen (state (assembled (now (s .exit)) (now (r .entry)) (e .controls) false) v) (mapIn (e .marks) w) (nextOf (e .next)) ≡ watched (dataTree false op) (state (assembled (now (s .entry)) (now (r .entry)) x false) v) (mapIn marks w)) ⌝ }
 {
-    let hang = hang_data(kr, k, op);
+    let hang = hang_data(marks, op);
     match hang {
         Hang::At(place) => Seen {
             controls: x,
-            flags: k.flags,
-            control: k.control,
-            exc: k.exc,
-            nzcv: k.nzcv,
+            marks,
             next: Next::Halt(Stop::Hangs(place)),
         },
         Hang::Clear => {
-            let known = mark_data(ks, k, x.fpscr, op);
+            let known = mark_data(marks, x.fpscr, op);
             let done = processing::data_processing(s, x.fpscr, op);
             match done {
                 Processed::Done(fpscr) => {
@@ -248,10 +198,7 @@ fn watch_data(
                             fpexc: x.fpexc,
                             cpsr,
                         },
-                        flags: known.flags,
-                        control: known.control,
-                        exc: known.exc,
-                        nzcv: known.nzcv,
+                        marks: known,
                         next: Next::On,
                     }
                 }
@@ -259,10 +206,7 @@ fn watch_data(
                     let pc = current_pc(r[15], false);
                     Seen {
                         controls: x,
-                        flags: known.flags,
-                        control: known.control,
-                        exc: known.exc,
-                        nzcv: known.nzcv,
+                        marks: known,
                         next: Next::Halt(Stop::Undefined { pc, opcode: op }),
                     }
                 }

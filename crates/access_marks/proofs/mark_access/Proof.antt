@@ -1,10 +1,10 @@
 -- `access_marks::mark_access` meets its contract.
-use mathlib.Core.Path.{sym, _∙_}
-use denote.Ref.{now}
-use borrow.Author.Needs.{needs}
-use Rattle.access_marks.proofs.Trees.{paired, accessed}
-use Rattle.machine.specs.Machine.{withR}
 use Rattle.machine.specs.Place.{state}
+use Rattle.machine.specs.Machine.{withR}
+use Rattle.access_marks.proofs.Trees.{paired, accessed}
+use denote.Ref.{now}
+use mathlib.Core.Path.{sym, _∙_}
+use borrow.Author.Needs.{needs}
 use Rattle.access_marks.proofs.mark_access.Statement.{statement}
 use Rattle.access_marks.proofs.mark_access.Tie as tie
 
@@ -15,7 +15,7 @@ mark-pair-requires : tie.Need-mark-pair-requires
 mark-pair-requires c κs = search needs
 
 returns : tie.Need-returns
-returns c = λ k q v. paired _ _ _ _ _ _ (sym (c .before .before .before .before .bits .ensures) ∙ c .before .before .before .if1 .taken) (c .mark-pair .ensures k _)
+returns c = λ q v. paired _ _ _ _ _ _ (sym (c .before .before .bits .ensures) ∙ c .before .if1 .taken) (c .mark-pair .ensures _)
 
 bits-requires-2 : tie.Need-bits-requires-2
 bits-requires-2 c κs = search needs
@@ -39,7 +39,7 @@ same-length : tie.Need-same-length
 same-length c = search needs
 
 returns-2 : tie.Need-returns-2
-returns-2 c = λ k q v. accessed _ _ _ (state (withR q (now (c .before .before .before .before .before .before .before .before .before .before .before .args .r))) v) _ _ (rw (c .before .before .before .before .before .before .before .before .before .bits .ensures) at (c .before .before .before .before .before .before .before .before .if1 .left)) (rw (c .before .before .before .before .before .start-of .ensures, c .before .before .before .before .before .before .before .bits2 .ensures) at (c .before .before .mark-transfer .ensures (now (c .before .before .before .before .before .before .before .before .before .before .before .args .kr)) k))
+returns-2 c = λ q v. accessed _ _ _ (state (withR q (now (c .before .before .before .before .before .before .before .before .before .before .args .r))) v) _ _ (rw (c .before .before .before .before .before .before .before .before .bits .ensures) at (c .before .before .before .before .before .before .before .if1 .left)) (rw (c .before .before .before .before .start-of .ensures, c .before .before .before .before .before .before .bits2 .ensures) at (c .before .before .mark-transfer .ensures))
 
 pub mark-access-spec : {M : Type 1} → statement M
 mark-access-spec =

@@ -22,32 +22,32 @@ bit-requires c κs = search needs
 single-known-requires : tie.Need-single-known-requires
 single-known-requires c κs = search needs
 
-element-write-kr : tie.Need-element-write-kr
-element-write-kr c = search needs
+mark-core-requires : tie.Need-mark-core-requires
+mark-core-requires c κs = search needs
 
 single-known-requires-2 : tie.Need-single-known-requires-2
 single-known-requires-2 c κs = search needs
 
-element-write-kr-2 : tie.Need-element-write-kr-2
-element-write-kr-2 c = search needs
+mark-core-requires-2 : tie.Need-mark-core-requires-2
+mark-core-requires-2 c κs = search needs
 
 returns : tie.Need-returns
-returns c = λ k w. rw (sym (c .before .before .before .before .before .bit .ensures) ∙ c .before .before .before .before .if1 .taken, c .single-known2 .ensures, c .before .before .single-known .ensures, c .before .before .before .before .before .before .bits2 .ensures, c .before .before .before .before .before .before .before .bits .ensures)
+returns c = λ w. rw (sym (c .before .before .before .before .before .bit .ensures) ∙ c .before .before .before .before .if1 .taken, c .mark-core2 .ensures w, c .before .single-known2 .ensures w, c .before .before .mark-core .ensures w, c .before .before .before .single-known .ensures w, c .before .before .before .before .before .before .bits2 .ensures, c .before .before .before .before .before .before .before .bits .ensures)
 
-element-copy-out-mark-single : tie.Need-element-copy-out-mark-single
-element-copy-out-mark-single c = search needs
+core-known-requires : tie.Need-core-known-requires
+core-known-requires c κs = search needs
 
 mark-single-requires : tie.Need-mark-single-requires
 mark-single-requires c κs = search needs
 
-element-copy-out-mark-single-2 : tie.Need-element-copy-out-mark-single-2
-element-copy-out-mark-single-2 c = search needs
+core-known-requires-2 : tie.Need-core-known-requires-2
+core-known-requires-2 c κs = search needs
 
 mark-single-requires-2 : tie.Need-mark-single-requires-2
 mark-single-requires-2 c κs = search needs
 
 returns-2 : tie.Need-returns-2
-returns-2 c = λ k w. rw (sym (c .before .before .before .before .before .before .before .bit .ensures) ∙ c .before .before .before .before .before .before .if1 .left, c .mark-single2 .ensures, c .before .before .before .mark-single .ensures, c .before .before .before .before .before .before .before .before .bits2 .ensures, c .before .before .before .before .before .before .before .before .before .bits .ensures)
+returns-2 c = λ w. rw (sym (c .before .before .before .before .before .bit .ensures) ∙ c .before .before .before .before .if1 .left, c .mark-single2 .ensures w, c .before .core-known2 .ensures w, c .before .before .mark-single .ensures w, c .before .before .before .core-known .ensures w, c .before .before .before .before .before .before .bits2 .ensures, c .before .before .before .before .before .before .before .bits .ensures)
 
 pub mark-both-spec : {M : Type 1} → statement M
 mark-both-spec =
@@ -59,12 +59,12 @@ mark-both-spec =
     cast-rt2
     bit-requires
     single-known-requires
-    element-write-kr
+    mark-core-requires
     single-known-requires-2
-    element-write-kr-2
+    mark-core-requires-2
     returns
-    element-copy-out-mark-single
+    core-known-requires
     mark-single-requires
-    element-copy-out-mark-single-2
+    core-known-requires-2
     mark-single-requires-2
     returns-2)

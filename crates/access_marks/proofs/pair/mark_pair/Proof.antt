@@ -1,6 +1,6 @@
 -- `access_marks::pair::mark_pair` meets its contract.
-use borrow.Author.Needs.{needs}
 use Rattle.addresses.proofs.Singles.{low-single, high-single}
+use borrow.Author.Needs.{needs}
 use Rattle.access_marks.proofs.pair.mark_pair.Statement.{statement}
 use Rattle.access_marks.proofs.pair.mark_pair.Tie as tie
 
@@ -20,19 +20,19 @@ mark-both-requires : tie.Need-mark-both-requires
 mark-both-requires c κs = search needs
 
 returns : tie.Need-returns
-returns c = λ k w. rw (c .before .before .before .before .before .before .if1 .taken) (rw (c .before .before .low-word .ensures, c .before .high-word .ensures, c .before .before .before .before .before .dreg .ensures, c .before .before .before .before .before .before .before .bits .ensures, low-single, high-single) at (c .mark-both .ensures k w))
+returns c = λ w. rw (c .before .before .before .before .if1 .taken) (rw (c .before .before .low-word .ensures, c .before .high-word .ensures, c .before .before .before .dreg .ensures, c .before .before .before .before .before .bits .ensures, low-single, high-single) at (c .mark-both .ensures w))
 
 sreg-requires : tie.Need-sreg-requires
 sreg-requires c κs = search needs
 
-add-t18 : tie.Need-add-t18
-add-t18 c = search needs
+add-t11 : tie.Need-add-t11
+add-t11 c = search needs
 
 mark-both-requires-2 : tie.Need-mark-both-requires-2
 mark-both-requires-2 c κs = search needs
 
 returns-2 : tie.Need-returns-2
-returns-2 c = λ k w. rw (c .before .before .before .before .before .if1 .left) (rw (c .before .before .before .before .sreg .ensures, c .before .before .before .before .before .before .bits .ensures) at (c .mark-both2 .ensures k w))
+returns-2 c = λ w. rw (c .before .before .before .if1 .left) (rw (c .before .before .sreg .ensures, c .before .before .before .before .bits .ensures) at (c .mark-both2 .ensures w))
 
 pub mark-pair-spec : {M : Type 1} → statement M
 mark-pair-spec =
@@ -45,6 +45,6 @@ mark-pair-spec =
     mark-both-requires
     returns
     sreg-requires
-    add-t18
+    add-t11
     mark-both-requires-2
     returns-2)

@@ -1,27 +1,26 @@
 -- `access_marks::words::mark_loads` meets its contract.
+use Rattle.access_marks.proofs.InTurn.{loaded}
+use mathlib.Core.Path.{_≡_, _∙_}
+use mathlib.Core.Bool.{true}
+use Rattle.place_marks.specs.Word.{mapIn}
 use Prim.Native.Nat.{_≤_, _-_}
 use lib.Ieee.{binary32}
 use borrow.Author.Needs.{needs}
 use native.Mathlib.Omega.{arith}
-use mathlib.Core.List.{List}
-use mathlib.Core.Bool.{Bool, true}
-use mathlib.Core.Path.{_≡_}
-use Rattle.meaning.proofs.Laws.{marks-none, marks-one}
-use Rattle.memory.specs.LoadStore.{accessAt}
+use Rattle.meaning.proofs.Laws.{marks-none}
 use Rattle.meaning.specs.Step.{afterMarks}
-use Rattle.meaning.specs.declared.Known.{Known}
-use Rattle.meaning.specs.Map.{mapFrom}
+use Rattle.memory.specs.LoadStore.{accessAt}
 use Rattle.access_marks.proofs.words.mark_loads.Statement.{statement}
 use Rattle.access_marks.proofs.words.mark_loads.Tie as tie
 
 abbrev Inv-loop : tie.InvT-loop
-Inv-loop ks₀ marks base start first count i₀ ks i = (i ≤ count) × ((kr : List Bool) (k : Known) → mapFrom ks kr k marks ≡ afterMarks i (accessAt binary32 true base (first .0) start) (mapFrom ks₀ kr k marks))
+Inv-loop marks window-marks base start first count y₀ i₀ y i = (i ≤ count) × (mapIn y window-marks ≡ afterMarks i (accessAt binary32 true base (first .0) start) (mapIn marks window-marks))
 
 abbrev μ-loop : tie.MeasureT-loop
-μ-loop ks₀ marks base start first count i₀ ks i = count - i
+μ-loop marks window-marks base start first count y₀ i₀ y i = count - i
 
 loop-holds : tie.Need-loop-holds Inv-loop μ-loop
-loop-holds c = (omega arith, λ kr k. marks-none _ _)
+loop-holds c = (omega arith, marks-none _ _)
 
 mul-plus : tie.Need-mul-plus Inv-loop μ-loop
 mul-plus c = omega arith
@@ -32,11 +31,11 @@ plus-requires c κs = search needs
 word-known-requires : tie.Need-word-known-requires Inv-loop μ-loop
 word-known-requires c κs = search needs
 
-cast-t14 : tie.Need-cast-t14 Inv-loop μ-loop
-cast-t14 c = omega arith
+cast-t13 : tie.Need-cast-t13 Inv-loop μ-loop
+cast-t13 c = omega arith
 
-add-t15 : tie.Need-add-t15 Inv-loop μ-loop
-add-t15 c = omega arith
+add-t14 : tie.Need-add-t14 Inv-loop μ-loop
+add-t14 c = omega arith
 
 mark-single-requires : tie.Need-mark-single-requires Inv-loop μ-loop
 mark-single-requires c κs = search needs
@@ -48,10 +47,10 @@ loop-less : tie.Need-loop-less Inv-loop μ-loop
 loop-less c = omega arith
 
 loop-again : tie.Need-loop-again Inv-loop μ-loop
-loop-again c = (omega arith, λ kr k. rw (c .mark-single .ensures, c .before .before .before .word-known .ensures, c .before .before .before .before .plus .ensures) (marks-one _ _ _ _ (c .before .before .before .before .before .before .loop .inv .1 kr k)))
+loop-again c = (omega arith, c .mark-single .ensures _ ∙ loaded _ _ _ _ _ _ _ _ (rw (c .before .before .before .plus .ensures) at (c .before .before .word-known .ensures)) (c .before .before .before .before .before .loop .inv .1))
 
 returns : tie.Need-returns Inv-loop μ-loop
-returns c = λ kr k. let e : c .before .before .before .args .count ≡ c .before .loop .i = omega arith in rw e (c .before .loop .inv .1 kr k)
+returns c = let e : c .before .before .before .args .count ≡ c .before .loop .i = omega arith in rw e (c .before .loop .inv .1)
 
 pub mark-loads-spec : {M : Type 1} → statement M
 mark-loads-spec =
@@ -63,8 +62,8 @@ mark-loads-spec =
     mul-plus
     plus-requires
     word-known-requires
-    cast-t14
-    add-t15
+    cast-t13
+    add-t14
     mark-single-requires
     add-i
     loop-less

@@ -1,28 +1,27 @@
 -- `access_marks::words::mark_stores` meets its contract.
+use Rattle.access_marks.proofs.InTurn.{stored}
+use lib.ListN.{length}
+use mathlib.Core.Path.{_≡_, refl, _∙_}
+use mathlib.Core.Bool.{false}
+use Rattle.place_marks.specs.Word.{mapIn}
 use Prim.Native.Nat.{_≤_, _-_}
 use lib.Ieee.{binary32}
-use lib.ListN.{length}
 use borrow.Author.Needs.{needs}
 use native.Mathlib.Omega.{arith}
-use mathlib.Core.List.{List}
-use mathlib.Core.Bool.{Bool, false}
-use mathlib.Core.Path.{_≡_, refl, _∙_}
-use Rattle.meaning.proofs.Laws.{marks-none, marks-one}
-use Rattle.memory.specs.LoadStore.{accessAt}
+use Rattle.meaning.proofs.Laws.{marks-none}
 use Rattle.meaning.specs.Step.{afterMarks}
-use Rattle.meaning.specs.declared.Known.{Known}
-use Rattle.meaning.specs.Map.{mapFrom}
+use Rattle.memory.specs.LoadStore.{accessAt}
 use Rattle.access_marks.proofs.words.mark_stores.Statement.{statement}
 use Rattle.access_marks.proofs.words.mark_stores.Tie as tie
 
 abbrev Inv-loop : tie.InvT-loop
-Inv-loop ks marks₀ base start first count i₀ marks i = (i ≤ count) × (length marks ≡ length marks₀) × ((kr : List Bool) (k : Known) → mapFrom ks kr k marks ≡ afterMarks i (accessAt binary32 false base (first .0) start) (mapFrom ks kr k marks₀))
+Inv-loop marks window-marks₀ base start first count i₀ window-marks i = (i ≤ count) × (length window-marks ≡ length window-marks₀) × (mapIn marks window-marks ≡ afterMarks i (accessAt binary32 false base (first .0) start) (mapIn marks window-marks₀))
 
 abbrev μ-loop : tie.MeasureT-loop
-μ-loop ks marks₀ base start first count i₀ marks i = count - i
+μ-loop marks window-marks₀ base start first count i₀ window-marks i = count - i
 
 loop-holds : tie.Need-loop-holds Inv-loop μ-loop
-loop-holds c = (omega arith, refl, λ kr k. marks-none _ _)
+loop-holds c = (omega arith, refl, marks-none _ _)
 
 cast-t10 : tie.Need-cast-t10 Inv-loop μ-loop
 cast-t10 c = omega arith
@@ -49,13 +48,13 @@ loop-less : tie.Need-loop-less Inv-loop μ-loop
 loop-less c = omega arith
 
 loop-again : tie.Need-loop-again Inv-loop μ-loop
-loop-again c = (omega arith, c .before .before .mark-word .kept .0 ∙ c .before .before .before .before .before .before .before .before .loop .inv .1, λ kr k. rw (c .before .before .mark-word .ensures, c .before .before .before .before .before .single-known .ensures, c .before .before .before .plus .ensures) (marks-one _ _ _ _ (c .before .before .before .before .before .before .before .before .loop .inv .2 kr k)))
+loop-again c = (omega arith, c .before .before .mark-word .kept .0 ∙ c .before .before .before .before .before .before .before .before .loop .inv .1, rw (c .before .before .mark-word .ensures, c .before .before .before .plus .ensures) (stored _ _ _ _ _ _ _ _ (c .before .before .before .before .before .single-known .ensures (c .before .before .before .before .before .before .before .before .loop .window-marks)) (c .before .before .before .before .before .before .before .before .loop .inv .2)))
 
 same-length : tie.Need-same-length Inv-loop μ-loop
 same-length c = search needs
 
 returns : tie.Need-returns Inv-loop μ-loop
-returns c = λ kr k. let e : c .before .before .before .args .count ≡ c .before .loop .i = omega arith in rw e (c .before .loop .inv .2 kr k)
+returns c = let e : c .before .before .before .args .count ≡ c .before .loop .i = omega arith in rw e (c .before .loop .inv .2)
 
 pub mark-stores-spec : {M : Type 1} → statement M
 mark-stores-spec =

@@ -1,9 +1,8 @@
 -- `hangs::access::hang_base` meets its contract.
 use mathlib.Core.Path.{_∙_}
-use denote.Ref.{now}
-use borrow.Author.Needs.{needs}
+use Rattle.place_marks.specs.Word.{mapIn}
 use Rattle.hangs.proofs.Hangs.{pair-clear, base-asked}
-use Rattle.meaning.specs.Map.{mapFrom}
+use borrow.Author.Needs.{needs}
 use Rattle.hangs.proofs.access.hang_base.Statement.{statement}
 use Rattle.hangs.proofs.access.hang_base.Tie as tie
 
@@ -11,7 +10,7 @@ bits-requires : tie.Need-bits-requires
 bits-requires c κs = search needs
 
 returns : tie.Need-returns
-returns c = λ f k b st s w. pair-clear f b (c .before .before .args .op) st (mapFrom s (now (c .before .before .args .kr)) k w) _ (c .before .bits .ensures) (c .if1 .taken)
+returns c = λ f b st w. pair-clear f b (c .before .before .args .op) st (mapIn (c .before .before .args .marks) w) _ (c .before .bits .ensures) (c .if1 .taken)
 
 bits-requires-2 : tie.Need-bits-requires-2
 bits-requires-2 c κs = search needs
@@ -19,8 +18,8 @@ bits-requires-2 c κs = search needs
 cast-rn : tie.Need-cast-rn
 cast-rn c = search needs
 
-element-copy-out-asked : tie.Need-element-copy-out-asked
-element-copy-out-asked c = search needs
+core-known-requires : tie.Need-core-known-requires
+core-known-requires c κs = search needs
 
 add-asked : tie.Need-add-asked
 add-asked c = search needs
@@ -29,7 +28,7 @@ asked-requires : tie.Need-asked-requires
 asked-requires c κs = search needs
 
 returns-2 : tie.Need-returns-2
-returns-2 c = λ f k b st s w. c .asked .ensures ∙ base-asked f b (c .before .before .before .before .before .args .op) st (mapFrom s (now (c .before .before .before .before .before .args .kr)) k w) _ (c .before .before .before .before .bits .ensures) (c .before .before .before .if1 .left) _ (c .before .before .bits2 .ensures)
+returns-2 c = λ f b st w. (rw (c .before .core-known .ensures w) at (c .asked .ensures)) ∙ base-asked f b (c .before .before .before .before .before .args .op) st (mapIn (c .before .before .before .before .before .args .marks) w) _ (c .before .before .before .before .bits .ensures) (c .before .before .before .if1 .left) _ (c .before .before .bits2 .ensures)
 
 pub hang-base-spec : {M : Type 1} → statement M
 hang-base-spec =
@@ -39,7 +38,7 @@ hang-base-spec =
     returns
     bits-requires-2
     cast-rn
-    element-copy-out-asked
+    core-known-requires
     add-asked
     asked-requires
     returns-2)

@@ -4,8 +4,9 @@ use Rattle.place_values.specs.Place.{changedAt, firstFrom, nextChange}
 use denote.Ref.{now}
 use borrow.Author.Needs.{needs}
 use native.Mathlib.Omega.{arith}
+use mathlib.Core.Bool.{Bool}
 use mathlib.Core.Path.{_≡_, refl, sym, _∙_, ap}
-use Prim.Native.Nat.{_-_, _≤_}
+use Prim.Native.Nat.{ℕ, _-_, _≤_}
 use Rattle.place_values.proofs.place.next_change.Statement.{statement}
 use Rattle.place_values.proofs.place.next_change.Tie as tie
 
@@ -15,6 +16,9 @@ Inv-loop state marks window window-marks s m w v from end p₀ p = (from ≤ p) 
 abbrev μ-loop : tie.MeasureT-loop
 μ-loop state marks window window-marks s m w v from end p₀ p = end - p
 
+abbrev other : tie.Start Inv-loop μ-loop → ℕ → Bool
+other c = changedAt (now (c .args .state)) (c .args .marks) (now (c .args .window)) (now (c .args .window-marks)) (now (c .args .s)) (c .args .m) (now (c .args .w)) (now (c .args .v))
+
 loop-holds : tie.Need-loop-holds Inv-loop μ-loop
 unfolding nextChange
 loop-holds c = (omega arith, refl)
@@ -23,7 +27,7 @@ changed-requires : tie.Need-changed-requires Inv-loop μ-loop
 changed-requires c κs = search needs
 
 returns : tie.Need-returns Inv-loop μ-loop
-returns c = (omega arith, first-here (changedAt (now (c .before .before .before .before .before .before .before .before .before .before .before .before .args .state)) (now (c .before .before .before .before .before .before .before .before .before .before .before .before .args .marks)) (now (c .before .before .before .before .before .before .before .before .before .before .before .before .args .window)) (now (c .before .before .before .before .before .before .before .before .before .before .before .before .args .window-marks)) (now (c .before .before .before .before .before .before .before .before .before .before .before .before .args .s)) (now (c .before .before .before .before .before .before .before .before .before .before .before .before .args .m)) (now (c .before .before .before .before .before .before .before .before .before .before .before .before .args .w)) (now (c .before .before .before .before .before .before .before .before .before .before .before .before .args .v))) _ _ (c .before .before .loop-test .taken) (sym (c .before .changed .ensures) ∙ c .if1 .taken) ∙ c .before .before .before .loop .inv .1)
+returns c = (omega arith, first-here (other (c .before .before .before .before .before .before .before .before .before .before)) _ _ (c .before .before .loop-test .taken) (sym (c .before .changed .ensures) ∙ c .if1 .taken) ∙ c .before .before .before .loop .inv .1)
 
 add-p : tie.Need-add-p Inv-loop μ-loop
 add-p c = search needs
@@ -32,10 +36,10 @@ loop-less : tie.Need-loop-less Inv-loop μ-loop
 loop-less c = search needs
 
 loop-again : tie.Need-loop-again Inv-loop μ-loop
-loop-again c = (omega arith, first-on (changedAt (now (c .before .before .before .before .before .before .before .before .before .before .before .before .args .state)) (now (c .before .before .before .before .before .before .before .before .before .before .before .before .args .marks)) (now (c .before .before .before .before .before .before .before .before .before .before .before .before .args .window)) (now (c .before .before .before .before .before .before .before .before .before .before .before .before .args .window-marks)) (now (c .before .before .before .before .before .before .before .before .before .before .before .before .args .s)) (now (c .before .before .before .before .before .before .before .before .before .before .before .before .args .m)) (now (c .before .before .before .before .before .before .before .before .before .before .before .before .args .w)) (now (c .before .before .before .before .before .before .before .before .before .before .before .before .args .v))) _ _ (c .before .before .loop-test .taken) (sym (c .before .changed .ensures) ∙ c .if1 .left) ∙ c .before .before .before .loop .inv .1)
+loop-again c = (omega arith, first-on (other (c .before .before .before .before .before .before .before .before .before .before)) _ _ (c .before .before .loop-test .taken) (sym (c .before .changed .ensures) ∙ c .if1 .left) ∙ c .before .before .before .loop .inv .1)
 
 returns-2 : tie.Need-returns-2 Inv-loop μ-loop
-returns-2 c = (omega arith, first-end (changedAt (now (c .before .before .before .before .before .before .before .before .before .before .args .state)) (now (c .before .before .before .before .before .before .before .before .before .before .args .marks)) (now (c .before .before .before .before .before .before .before .before .before .before .args .window)) (now (c .before .before .before .before .before .before .before .before .before .before .args .window-marks)) (now (c .before .before .before .before .before .before .before .before .before .before .args .s)) (now (c .before .before .before .before .before .before .before .before .before .before .args .m)) (now (c .before .before .before .before .before .before .before .before .before .before .args .w)) (now (c .before .before .before .before .before .before .before .before .before .before .args .v))) _ _ (c .loop-test .left) ∙ c .before .loop .inv .1)
+returns-2 c = (omega arith, first-end (other (c .before .before .before .before .before .before .before .before)) _ _ (c .loop-test .left) ∙ c .before .loop .inv .1)
 
 pub next-change-spec : {M : Type 1} → statement M
 next-change-spec =

@@ -4,11 +4,24 @@ use borrow.Author.Tests.{eq-eqb, ne-eqb}
 use Rattle.text.proofs.Chain.{begun, more, ended}
 use mathlib.Core.List.{append-assoc}
 use borrow.Author.Needs.{needs}
+use native.Mathlib.Omega.{arith}
+use Prim.Native.Nat.{ℕ}
+use mathlib.Core.Bool.{Bool}
+use mathlib.Core.List.{List, []}
+use mathlib.Core.Path.{_≡_, _∙_}
+use Rattle.bits.specs.Field.{bitOf}
+use Rattle.machine.specs.Place.{place}
+use Rattle.meaning.specs.Map.{known}
+use Rattle.place_marks.specs.Word.{mapIn}
+use Rattle.place_marks.proofs.Word.{known-in}
 use Rattle.report.proofs.line.stop.Statement.{statement}
 use Rattle.report.proofs.line.stop.Tie as tie
 
-marked-requires : tie.Need-marked-requires
-marked-requires c κs = search needs
+pc-known : (m : ℕ) (b : Bool) → ((w : List ℕ) → b ≡ known (mapIn m w) (place 47)) → b ≡ bitOf m 47
+pc-known m b e = e [] ∙ known-in m [] 47 (omega arith)
+
+is-known-requires : tie.Need-is-known-requires
+is-known-requires c κs = search needs
 
 word-requires : tie.Need-word-requires
 word-requires c κs = search needs
@@ -27,7 +40,7 @@ with-r15-requires c κs = search needs
 
 returns : tie.Need-returns
 unfolding stopText
-returns c = rw (← c .before .before .before .before .before .before .marked .ensures, ← c .before .before .before .before .before .word .ensures, eq-eqb _ _ (c .before .before .before .if1 .taken)) (ended _ _ _ (more _ _ _ _ (more _ _ _ _ (begun _ (c .before .before .before .before .new .ensures)) (c .before .add .ensures)) (c .with-r15 .ensures)) (simp append-assoc))
+returns c = rw (← pc-known _ _ (c .before .before .before .before .before .before .is-known .ensures), ← c .before .before .before .before .before .word .ensures, eq-eqb _ _ (c .before .before .before .if1 .taken)) (ended _ _ _ (more _ _ _ _ (more _ _ _ _ (begun _ (c .before .before .before .before .new .ensures)) (c .before .add .ensures)) (c .with-r15 .ensures)) (simp append-assoc))
 
 slice-aggregate-add-2 : tie.Need-slice-aggregate-add-2
 slice-aggregate-add-2 c = search needs
@@ -43,7 +56,7 @@ with-r15-requires-2 c κs = search needs
 
 returns-2 : tie.Need-returns-2
 unfolding stopText
-returns-2 c = rw (← c .before .before .before .before .before .before .before .before .marked .ensures, ← c .before .before .before .before .before .before .before .word .ensures, ne-eqb _ _ (c .before .before .before .before .before .if1 .left), eq-eqb _ _ (c .before .before .before .before .if2 .taken)) (ended _ _ _ (more _ _ _ _ (more _ _ _ _ (more _ _ _ _ (begun _ (c .before .before .before .before .before .before .new .ensures)) (c .before .before .add2 .ensures)) (c .before .at-word .ensures)) (c .with-r152 .ensures)) (simp append-assoc))
+returns-2 c = rw (← pc-known _ _ (c .before .before .before .before .before .before .before .before .is-known .ensures), ← c .before .before .before .before .before .before .before .word .ensures, ne-eqb _ _ (c .before .before .before .before .before .if1 .left), eq-eqb _ _ (c .before .before .before .before .if2 .taken)) (ended _ _ _ (more _ _ _ _ (more _ _ _ _ (more _ _ _ _ (begun _ (c .before .before .before .before .before .before .new .ensures)) (c .before .before .add2 .ensures)) (c .before .at-word .ensures)) (c .with-r152 .ensures)) (simp append-assoc))
 
 slice-aggregate-add-3 : tie.Need-slice-aggregate-add-3
 slice-aggregate-add-3 c = search needs
@@ -65,7 +78,7 @@ add-hex-requires c κs = search needs
 
 returns-3 : tie.Need-returns-3
 unfolding stopText
-returns-3 c = rw (← c .before .before .before .before .before .before .before .before .before .before .before .marked .ensures, ← c .before .before .before .before .before .before .before .before .before .before .word .ensures, ne-eqb _ _ (c .before .before .before .before .before .before .before .before .if1 .left), ne-eqb _ _ (c .before .before .before .before .before .before .before .if2 .left), eq-eqb _ _ (c .before .before .before .before .before .before .if3 .taken)) (ended _ _ _ (more _ _ _ _ (more _ _ _ _ (more _ _ _ _ (more _ _ _ _ (begun _ (c .before .before .before .before .before .before .before .before .before .new .ensures)) (c .before .before .before .before .add3 .ensures)) (c .before .before .before .at-word2 .ensures)) (c .before .add4 .ensures)) (c .add-hex .ensures)) (simp append-assoc))
+returns-3 c = rw (← pc-known _ _ (c .before .before .before .before .before .before .before .before .before .before .before .is-known .ensures), ← c .before .before .before .before .before .before .before .before .before .before .word .ensures, ne-eqb _ _ (c .before .before .before .before .before .before .before .before .if1 .left), ne-eqb _ _ (c .before .before .before .before .before .before .before .if2 .left), eq-eqb _ _ (c .before .before .before .before .before .before .if3 .taken)) (ended _ _ _ (more _ _ _ _ (more _ _ _ _ (more _ _ _ _ (more _ _ _ _ (begun _ (c .before .before .before .before .before .before .before .before .before .new .ensures)) (c .before .before .before .before .add3 .ensures)) (c .before .before .before .at-word2 .ensures)) (c .before .add4 .ensures)) (c .add-hex .ensures)) (simp append-assoc))
 
 slice-aggregate-add-5 : tie.Need-slice-aggregate-add-5
 slice-aggregate-add-5 c = search needs
@@ -81,7 +94,7 @@ with-r15-requires-3 c κs = search needs
 
 returns-4 : tie.Need-returns-4
 unfolding stopText
-returns-4 c = rw (← c .before .before .before .before .before .before .before .before .before .before .marked .ensures, ← c .before .before .before .before .before .before .before .before .before .word .ensures, ne-eqb _ _ (c .before .before .before .before .before .before .before .if1 .left), ne-eqb _ _ (c .before .before .before .before .before .before .if2 .left), ne-eqb _ _ (c .before .before .before .before .before .if3 .left), eq-eqb _ _ (c .before .before .before .before .if4 .taken)) (ended _ _ _ (more _ _ _ _ (more _ _ _ _ (more _ _ _ _ (begun _ (c .before .before .before .before .before .before .before .before .new .ensures)) (c .before .before .add5 .ensures)) (c .before .after-word .ensures)) (c .with-r153 .ensures)) (simp append-assoc))
+returns-4 c = rw (← pc-known _ _ (c .before .before .before .before .before .before .before .before .before .before .is-known .ensures), ← c .before .before .before .before .before .before .before .before .before .word .ensures, ne-eqb _ _ (c .before .before .before .before .before .before .before .if1 .left), ne-eqb _ _ (c .before .before .before .before .before .before .if2 .left), ne-eqb _ _ (c .before .before .before .before .before .if3 .left), eq-eqb _ _ (c .before .before .before .before .if4 .taken)) (ended _ _ _ (more _ _ _ _ (more _ _ _ _ (more _ _ _ _ (begun _ (c .before .before .before .before .before .before .before .before .new .ensures)) (c .before .before .add5 .ensures)) (c .before .after-word .ensures)) (c .with-r153 .ensures)) (simp append-assoc))
 
 hung-requires : tie.Need-hung-requires
 hung-requires c κs = search needs
@@ -94,7 +107,7 @@ with-r15-requires-4 c κs = search needs
 
 returns-5 : tie.Need-returns-5
 unfolding stopText
-returns-5 c = rw (← c .before .before .before .before .before .before .before .before .before .before .marked .ensures, ← c .before .before .before .before .before .before .before .before .before .word .ensures, ne-eqb _ _ (c .before .before .before .before .before .before .before .if1 .left), ne-eqb _ _ (c .before .before .before .before .before .before .if2 .left), ne-eqb _ _ (c .before .before .before .before .before .if3 .left), ne-eqb _ _ (c .before .before .before .before .if4 .left), eq-eqb _ _ (c .before .before .before .if5 .taken)) (ended _ _ _ (more _ _ _ _ (more _ _ _ _ (more _ _ _ _ (begun _ (c .before .before .before .before .before .before .before .before .new .ensures)) (c .before .before .hung .ensures)) (c .before .at-word3 .ensures)) (c .with-r154 .ensures)) (simp append-assoc))
+returns-5 c = rw (← pc-known _ _ (c .before .before .before .before .before .before .before .before .before .before .is-known .ensures), ← c .before .before .before .before .before .before .before .before .before .word .ensures, ne-eqb _ _ (c .before .before .before .before .before .before .before .if1 .left), ne-eqb _ _ (c .before .before .before .before .before .before .if2 .left), ne-eqb _ _ (c .before .before .before .before .before .if3 .left), ne-eqb _ _ (c .before .before .before .before .if4 .left), eq-eqb _ _ (c .before .before .before .if5 .taken)) (ended _ _ _ (more _ _ _ _ (more _ _ _ _ (more _ _ _ _ (begun _ (c .before .before .before .before .before .before .before .before .new .ensures)) (c .before .before .hung .ensures)) (c .before .at-word3 .ensures)) (c .with-r154 .ensures)) (simp append-assoc))
 
 slice-aggregate-add-6 : tie.Need-slice-aggregate-add-6
 slice-aggregate-add-6 c = search needs
@@ -107,13 +120,13 @@ add-decimal-requires c κs = search needs
 
 returns-6 : tie.Need-returns-6
 unfolding stopText
-returns-6 c = rw (← c .before .before .before .before .before .before .before .before .before .before .marked .ensures, ← c .before .before .before .before .before .before .before .before .before .word .ensures, ne-eqb _ _ (c .before .before .before .before .before .before .before .if1 .left), ne-eqb _ _ (c .before .before .before .before .before .before .if2 .left), ne-eqb _ _ (c .before .before .before .before .before .if3 .left), ne-eqb _ _ (c .before .before .before .before .if4 .left), ne-eqb _ _ (c .before .before .before .if5 .left)) (ended _ _ _ (more _ _ _ _ (more _ _ _ _ (begun _ (c .before .before .before .before .before .before .before .before .new .ensures)) (c .before .add6 .ensures)) (c .add-decimal .ensures)) (simp append-assoc))
+returns-6 c = rw (← pc-known _ _ (c .before .before .before .before .before .before .before .before .before .before .is-known .ensures), ← c .before .before .before .before .before .before .before .before .before .word .ensures, ne-eqb _ _ (c .before .before .before .before .before .before .before .if1 .left), ne-eqb _ _ (c .before .before .before .before .before .before .if2 .left), ne-eqb _ _ (c .before .before .before .before .before .if3 .left), ne-eqb _ _ (c .before .before .before .before .if4 .left), ne-eqb _ _ (c .before .before .before .if5 .left)) (ended _ _ _ (more _ _ _ _ (more _ _ _ _ (begun _ (c .before .before .before .before .before .before .before .before .new .ensures)) (c .before .add6 .ensures)) (c .add-decimal .ensures)) (simp append-assoc))
 
 pub stop-spec : {M : Type 1} → statement M
 stop-spec =
     tie.close
     (tie.spec
-    marked-requires
+    is-known-requires
     word-requires
     new-requires
     slice-aggregate-add

@@ -16,11 +16,11 @@ add-t6 c = search needs
 
 returns : tie.Need-returns
 unfolding wordOutcome
-returns c = λ s m w v. rw (lt-ltb _ _ (c .if1 .taken))
+returns c = λ s w μ. rw (lt-ltb _ _ (c .if1 .taken))
 
 returns-2 : tie.Need-returns-2
 unfolding wordOutcome
-returns-2 c = λ s m w v. rw (le-ltb _ _ (c .if1 .left))
+returns-2 c = λ s w μ. rw (le-ltb _ _ (c .if1 .left))
 
 pub add-word-spec : {M : Type 1} → statement M
 add-word-spec = tie.close (tie.spec mul-list element-write-list add-t6 returns returns-2)

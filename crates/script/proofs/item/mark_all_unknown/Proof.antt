@@ -1,8 +1,9 @@
 -- `script::item::mark_all_unknown` meets its contract.
 use borrow.Author.Tests.{not-true, not-false}
-use Rattle.script.proofs.Unknown.{unknown-end, unknown-mistake, unknown-beyond, unknown-on}
+use Rattle.script.proofs.Unknown.{unknown-end, unknown-mistake, unknown-beyond, unknown-on, one-unknown}
 use Rattle.script.specs.Item.{buffers, unknownOutcome}
 use Rattle.tokens.specs.Token.{wordsOf}
+use Rattle.place_marks.specs.Word.{mapIn}
 use borrow.Author.Needs.{needs}
 use denote.Ref.{now}
 use mathlib.Core.Path.{_≡_, refl, sym, _∙_, ap}
@@ -14,7 +15,7 @@ use Rattle.script.proofs.item.mark_all_unknown.Statement.{statement}
 use Rattle.script.proofs.item.mark_all_unknown.Tie as tie
 
 abbrev Inv-loop : tie.InvT-loop
-Inv-loop layout marks₀ window-marks₀ line from words at₀ marks window-marks at = (s w l : List ℕ) → unknownOutcome (wordsOf (drop at line)) layout (buffers s marks w window-marks l) ≡ unknownOutcome (wordsOf (drop from line)) layout (buffers s marks₀ w window-marks₀ l)
+Inv-loop layout marks₀ window-marks₀ line from words at₀ marks window-marks at = (s w l : List ℕ) → unknownOutcome (wordsOf (drop at line)) layout (buffers s (mapIn marks window-marks) w l) ≡ unknownOutcome (wordsOf (drop from line)) layout (buffers s (mapIn marks₀ window-marks₀) w l)
 
 abbrev μ-loop : tie.MeasureT-loop
 μ-loop layout marks₀ window-marks₀ line from words at₀ marks window-marks at = length line - at
@@ -44,7 +45,7 @@ loop-less : tie.Need-loop-less Inv-loop μ-loop
 loop-less c = omega (arith, c .before .before .before .before .before .before .before .before .before .next-place .ensures .0 _ _ (c .before .before .before .before .before .before .before .next .given .1) .0, c .before .before .before .before .before .before .before .before .before .next-place .ensures .0 _ _ (c .before .before .before .before .before .before .before .next .given .1) .1)
 
 loop-again : tie.Need-loop-again Inv-loop μ-loop
-loop-again c = λ s w l. unknown-on (c .before .before .before .before .before .before .before .before .before .before .before .before .args .layout) _ (now (c .before .before .before .before .before .before .before .before .before .before .before .before .args .line)) _ _ _ _ (c .before .before .before .before .before .index .ensures) (sym (c .before .before .before .before .before .before .before .next .given .1) ∙ c .before .before .before .before .before .before .before .before .before .next-place .ensures .1) (sym (c .before .before .before .before .is-place .ensures) ∙ not-false (c .before .before .before .before .is-place .result) (c .before .before .before .if1 .left)) _ (c .mark-unknown .ensures s w l) ∙ c .before .before .before .before .before .before .before .before .before .before .loop .inv s w l
+loop-again c = λ s w l. unknown-on (c .before .before .before .before .before .before .before .before .before .before .before .before .args .layout) _ (now (c .before .before .before .before .before .before .before .before .before .before .before .before .args .line)) _ _ _ _ (c .before .before .before .before .before .index .ensures) (sym (c .before .before .before .before .before .before .before .next .given .1) ∙ c .before .before .before .before .before .before .before .before .before .next-place .ensures .1) (sym (c .before .before .before .before .is-place .ensures) ∙ not-false (c .before .before .before .before .is-place .result) (c .before .before .before .if1 .left)) _ (one-unknown _ s w l _ _ (c .mark-unknown .ensures)) ∙ c .before .before .before .before .before .before .before .before .before .before .loop .inv s w l
 
 enum-told : tie.Need-enum-told Inv-loop μ-loop
 enum-told c = search needs

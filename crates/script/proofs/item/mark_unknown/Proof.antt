@@ -1,23 +1,21 @@
 -- `script::item::mark_unknown` meets its contract.
-use Rattle.script.specs.Item.{unknownAt}
-use borrow.Author.Tests.{lt-ltb, le-ltb}
+use Rattle.script.proofs.Unknown.{window-unknown}
+use denote.Ref.{now}
 use borrow.Author.Needs.{needs}
 use Rattle.script.proofs.item.mark_unknown.Statement.{statement}
 use Rattle.script.proofs.item.mark_unknown.Tie as tie
 
-element-write-marks : tie.Need-element-write-marks
-element-write-marks c = search needs
+set-known-requires : tie.Need-set-known-requires
+set-known-requires c κs = search needs
 
 returns : tie.Need-returns
-unfolding unknownAt
-returns c = λ s w l. rw (lt-ltb _ _ (c .if1 .taken))
+returns c = c .set-known .ensures _
 
-put-mark-requires : tie.Need-put-mark-requires
-put-mark-requires c κs = search needs
+clear-mark-requires : tie.Need-clear-mark-requires
+clear-mark-requires c κs = search needs
 
 returns-2 : tie.Need-returns-2
-unfolding unknownAt
-returns-2 c = λ s w l. rw (le-ltb _ _ (c .before .before .if1 .left), c .put-mark .ensures)
+returns-2 c = rw (c .clear-mark .ensures) (window-unknown _ _ _ (c .before .before .if1 .left))
 
 pub mark-unknown-spec : {M : Type 1} → statement M
-mark-unknown-spec = tie.close (tie.spec element-write-marks returns put-mark-requires returns-2)
+mark-unknown-spec = tie.close (tie.spec set-known-requires returns clear-mark-requires returns-2)

@@ -16,14 +16,14 @@ element-write-state c = search needs
 
 returns : tie.Need-returns
 unfolding putAt
-returns c = λ m v l. rw (lt-ltb _ _ (c .before .if1 .taken), c .in-position .ensures)
+returns c = λ μ l. rw (lt-ltb _ _ (c .before .if1 .taken), c .in-position .ensures)
 
 put-word-requires : tie.Need-put-word-requires
 put-word-requires c κs = search needs
 
 returns-2 : tie.Need-returns-2
 unfolding putAt
-returns-2 c = λ m v l. rw (le-ltb _ _ (c .before .before .if1 .left), c .put-word .ensures)
+returns-2 c = λ μ l. rw (le-ltb _ _ (c .before .before .if1 .left), c .put-word .ensures)
 
 pub put-place-spec : {M : Type 1} → statement M
 put-place-spec =

@@ -14,11 +14,11 @@ put-place-requires c κs = search needs
 
 returns : tie.Need-returns
 unfolding setOutcome
-returns c = λ m v l. rw (sym (c .before .before .before .before .is-place .ensures) ∙ c .before .before .before .if1 .taken) (ap (outcome (On (c .before .before .before .before .before .args .layout))) (c .put-place .ensures m v l))
+returns c = λ μ l. rw (sym (c .before .before .before .before .is-place .ensures) ∙ c .before .before .before .if1 .taken) (ap (outcome (On (c .before .before .before .before .before .args .layout))) (c .put-place .ensures μ l))
 
 returns-2 : tie.Need-returns-2
 unfolding setOutcome
-returns-2 c = λ m v l. rw (sym (c .before .is-place .ensures) ∙ c .if1 .left)
+returns-2 c = λ μ l. rw (sym (c .before .is-place .ensures) ∙ c .if1 .left)
 
 pub set-place-spec : {M : Type 1} → statement M
 set-place-spec = tie.close (tie.spec is-place-requires put-place-requires returns returns-2)

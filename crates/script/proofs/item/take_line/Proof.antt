@@ -49,10 +49,10 @@ returns : tie.Need-returns
 returns c = line-nothing (now (c .before .before .before .before .args .line)) _ _ (sym (c .enum-told .given .1) ∙ c .before .before .item-of .ensures)
 
 returns-2 : tie.Need-returns-2
-returns-2 c = line-word (now (c .before .before .before .before .before .before .before .args .line)) _ _ _ _ (c .add-word .ensures _ _ _ _) (sym (c .before .before .before .item .given .1) ∙ c .before .before .before .before .before .item-of .ensures)
+returns-2 c = line-word (now (c .before .before .before .before .before .before .before .args .line)) _ _ _ _ (c .add-word .ensures _ _ _) (sym (c .before .before .before .item .given .1) ∙ c .before .before .before .before .before .item-of .ensures)
 
 returns-3 : tie.Need-returns-3
-returns-3 c = line-set (now (c .before .before .before .before .before .before .before .before .before .args .line)) _ _ _ _ _ _ (c .set-place .ensures _ _ _) (c .before .index .ensures) (sym (c .before .before .before .before .before .item2 .given .1) ∙ c .before .before .before .before .before .before .before .item-of .ensures)
+returns-3 c = line-set (now (c .before .before .before .before .before .before .before .before .before .args .line)) _ _ _ _ _ _ (c .set-place .ensures _ _) (c .before .index .ensures) (sym (c .before .before .before .before .before .item2 .given .1) ∙ c .before .before .before .before .before .before .before .item-of .ensures)
 
 returns-4 : tie.Need-returns-4
 returns-4 c = line-unknown (now (c .before .before .before .before .before .before .before .before .args .line)) _ _ _ _ (c .mark-all-unknown .ensures _ _ _) (sym (c .before .before .before .before .item3 .given .1) ∙ c .before .before .before .before .before .before .item-of .ensures)

@@ -3,6 +3,7 @@ use Rattle.script.proofs.Lines.{lines-end, lines-wrong, lines-next}
 use Rattle.script.specs.Text.{linesReading, textReading}
 use Rattle.script.specs.Item.{buffers}
 use Rattle.tokens.specs.Token.{linesOf}
+use Rattle.place_marks.specs.Word.{mapIn}
 use denote.Ref.{now}
 use borrow.Author.Needs.{needs}
 use native.Mathlib.Omega.{arith}
@@ -15,7 +16,7 @@ use Rattle.script.proofs.text.take.Tie as tie
 
 abbrev Inv-loop : tie.InvT-loop
 Inv-loop text state₀ marks₀ window₀ window-marks₀ list₀ layout₀ line₀ at₀ state marks window window-marks list layout line at =
-    (at ≤ length text + 1) × (line ≤ at + 1) × (linesReading (linesOf (drop at text)) line layout (buffers state marks window window-marks list) ≡ textReading text (buffers state₀ marks₀ window₀ window-marks₀ list₀))
+    (at ≤ length text + 1) × (line ≤ at + 1) × (linesReading (linesOf (drop at text)) line layout (buffers state (mapIn marks window-marks) window list) ≡ textReading text (buffers state₀ (mapIn marks₀ window-marks₀) window₀ list₀))
 
 abbrev μ-loop : tie.MeasureT-loop
 μ-loop text state₀ marks₀ window₀ window-marks₀ list₀ layout₀ line₀ at₀ state marks window window-marks list layout line at =

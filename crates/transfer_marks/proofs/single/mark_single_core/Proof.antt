@@ -1,12 +1,9 @@
 -- `transfer_marks::single::mark_single_core` meets its contract.
 use mathlib.Core.Path.{sym, _∙_}
-use denote.Ref.{now}
-use borrow.Author.Needs.{needs}
-use Rattle.machine.specs.Registers.{sregOf}
+use Rattle.place_marks.specs.Word.{mapIn}
 use Rattle.meaning.proofs.Laws.{marked-once}
 use Rattle.transfer_marks.proofs.Transfers.{read-single}
-use Rattle.meaning.specs.Map.{mapFrom}
-use Rattle.bits.specs.Field.{field}
+use borrow.Author.Needs.{needs}
 use Rattle.transfer_marks.proofs.single.mark_single_core.Statement.{statement}
 use Rattle.transfer_marks.proofs.single.mark_single_core.Tie as tie
 
@@ -31,20 +28,20 @@ bit-requires c κs = search needs
 single-known-requires : tie.Need-single-known-requires
 single-known-requires c κs = search needs
 
-element-write-kr : tie.Need-element-write-kr
-element-write-kr c = search needs
+mark-core-requires : tie.Need-mark-core-requires
+mark-core-requires c κs = search needs
 
 returns : tie.Need-returns
-returns c = λ thumb k st w. rw (sym (c .before .before .before .bit .ensures) ∙ c .before .before .if1 .taken) (read-single thumb (sregOf (field (c .before .before .before .before .before .before .before .before .args .op) 16 19) (field (c .before .before .before .before .before .before .before .before .args .op) 7 7)) (field (c .before .before .before .before .before .before .before .before .args .op) 12 15) st (mapFrom (now (c .before .before .before .before .before .before .before .before .args .ks)) (now (c .before .before .before .before .before .before .before .before .args .kr)) k w) _ (rw (c .single-known .ensures, c .before .before .before .before .sreg .ensures, c .before .before .before .before .before .before .bits2 .ensures, c .before .before .before .before .before .bits3 .ensures, c .before .before .before .before .before .before .before .bits .ensures)))
+returns c = λ thumb st w. rw (sym (c .before .before .before .bit .ensures) ∙ c .before .before .if1 .taken) (read-single thumb _ _ st (mapIn (c .before .before .before .before .before .before .before .before .args .marks) w) _ (rw (c .before .single-known .ensures w, c .before .before .before .before .sreg .ensures, c .before .before .before .before .before .before .bits2 .ensures, c .before .before .before .before .before .bits3 .ensures, c .before .before .before .before .before .before .before .bits .ensures) at (c .mark-core .ensures w)))
 
-element-copy-out-mark-single : tie.Need-element-copy-out-mark-single
-element-copy-out-mark-single c = search needs
+core-known-requires : tie.Need-core-known-requires
+core-known-requires c κs = search needs
 
 mark-single-requires : tie.Need-mark-single-requires
 mark-single-requires c κs = search needs
 
 returns-2 : tie.Need-returns-2
-returns-2 c = λ thumb k st w. rw (sym (c .before .before .before .before .bit .ensures) ∙ c .before .before .before .if1 .left) (marked-once _ _ _ _ (rw (c .mark-single .ensures, c .before .before .before .before .before .sreg .ensures, c .before .before .before .before .before .before .before .bits2 .ensures, c .before .before .before .before .before .before .bits3 .ensures, c .before .before .before .before .before .before .before .before .bits .ensures)))
+returns-2 c = λ thumb st w. rw (sym (c .before .before .before .bit .ensures) ∙ c .before .before .if1 .left) (marked-once _ _ _ _ (rw (c .before .core-known .ensures w, c .before .before .before .before .sreg .ensures, c .before .before .before .before .before .before .bits2 .ensures, c .before .before .before .before .before .bits3 .ensures, c .before .before .before .before .before .before .before .bits .ensures) at (c .mark-single .ensures w)))
 
 pub mark-single-core-spec : {M : Type 1} → statement M
 mark-single-core-spec =
@@ -57,8 +54,8 @@ mark-single-core-spec =
     sreg-requires
     bit-requires
     single-known-requires
-    element-write-kr
+    mark-core-requires
     returns
-    element-copy-out-mark-single
+    core-known-requires
     mark-single-requires
     returns-2)

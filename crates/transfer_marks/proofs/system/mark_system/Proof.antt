@@ -1,13 +1,13 @@
 -- `transfer_marks::system::mark_system` meets its contract.
-use borrow.Author.Tests.{ne-eqb}
 use mathlib.Core.Path.{refl, sym, _∙_}
-use denote.Ref.{now}
-use borrow.Author.Needs.{needs}
+use borrow.Author.Tests.{ne-eqb}
 use Rattle.machine.specs.Place.{core}
+use Rattle.bits.specs.Field.{field}
+use Rattle.place_marks.proofs.Places.{place-flags, place-control, place-exc, place-nzcv}
+use Rattle.place_marks.specs.Word.{mapIn}
 use Rattle.meaning.proofs.Laws.{marked-once}
 use Rattle.transfer_marks.proofs.Transfers.{read-core, read-flags}
-use Rattle.meaning.specs.Map.{mapFrom}
-use Rattle.bits.specs.Field.{field}
+use borrow.Author.Needs.{needs}
 use Rattle.transfer_marks.proofs.system.mark_system.Statement.{statement}
 use Rattle.transfer_marks.proofs.system.mark_system.Tie as tie
 
@@ -26,29 +26,41 @@ bit-requires c κs = search needs
 flags-known-requires : tie.Need-flags-known-requires
 flags-known-requires c κs = search needs
 
+set-known-requires : tie.Need-set-known-requires
+set-known-requires c κs = search needs
+
 returns : tie.Need-returns
-returns c = λ s st w. rw (sym (c .before .before .before .bit .ensures) ∙ c .before .before .if1 .taken, sym (c .before .before .before .before .before .bits .ensures) ∙ c .before .if2 .taken) (marked-once _ _ _ _ (read-flags (field (c .before .before .before .before .before .before .args .op) 16 19) (mapFrom s (now (c .before .before .before .before .before .before .args .kr)) (c .before .before .before .before .before .before .args .k) w) _ (rw (c .before .before .before .before .bits2 .ensures) at (c .flags-known .ensures s (now (c .before .before .before .before .before .before .args .kr)) w))))
+returns c = λ st w. rw (sym (c .before .before .before .before .bit .ensures) ∙ c .before .before .before .if1 .taken, sym (c .before .before .before .before .before .before .bits .ensures) ∙ c .before .before .if2 .taken) (marked-once _ _ _ _ ((rw place-nzcv at (c .set-known .ensures w)) ∙ read-flags (field (c .before .before .before .before .before .before .before .args .op) 16 19) (mapIn (c .before .before .before .before .before .before .before .args .marks) w) _ (rw (c .before .before .before .before .before .bits2 .ensures) at (c .before .flags-known .ensures w))))
 
 value-known-requires : tie.Need-value-known-requires
 value-known-requires c κs = search needs
 
-element-write-kr : tie.Need-element-write-kr
-element-write-kr c = search needs
+mark-core-requires : tie.Need-mark-core-requires
+mark-core-requires c κs = search needs
 
 returns-2 : tie.Need-returns-2
-returns-2 c = λ s st w. rw (sym (c .before .before .before .bit .ensures) ∙ c .before .before .if1 .taken, ne-eqb _ _ (rw (c .before .before .before .before .before .bits .ensures) at (c .before .if2 .left))) (marked-once _ _ _ _ (rw (c .before .before .before .before .before .bits .ensures) (read-core (field (c .before .before .before .before .before .before .args .op) 16 19) (field (c .before .before .before .before .before .before .args .op) 12 15) (mapFrom s (now (c .before .before .before .before .before .before .args .kr)) (c .before .before .before .before .before .before .args .k) w) _ (rw (c .before .before .before .before .bits2 .ensures) at (c .value-known .ensures s (now (c .before .before .before .before .before .before .args .kr)) w (core (field (c .before .before .before .before .before .before .args .op) 12 15)))))))
+returns-2 c = λ st w. rw (sym (c .before .before .before .before .bit .ensures) ∙ c .before .before .before .if1 .taken, ne-eqb _ _ (rw (c .before .before .before .before .before .before .bits .ensures) at (c .before .before .if2 .left))) (marked-once _ _ _ _ ((rw (c .before .before .before .before .before .before .bits .ensures) at (c .mark-core .ensures w)) ∙ read-core (field (c .before .before .before .before .before .before .before .args .op) 16 19) (field (c .before .before .before .before .before .before .before .args .op) 12 15) (mapIn (c .before .before .before .before .before .before .before .args .marks) w) _ (rw (c .before .before .before .before .before .bits2 .ensures) at (c .before .value-known .ensures w (core (field (c .before .before .before .before .before .before .before .args .op) 12 15))))))
 
-element-copy-out-b : tie.Need-element-copy-out-b
-element-copy-out-b c = search needs
+core-known-requires : tie.Need-core-known-requires
+core-known-requires c κs = search needs
+
+set-known-requires-2 : tie.Need-set-known-requires-2
+set-known-requires-2 c κs = search needs
+
+set-known-requires-3 : tie.Need-set-known-requires-3
+set-known-requires-3 c κs = search needs
 
 returns-3 : tie.Need-returns-3
-returns-3 c = λ s st w. rw (sym (c .before .before .before .bit .ensures) ∙ c .before .before .if1 .left, sym (c .before .before .before .before .bits2 .ensures) ∙ c .if3 .taken) (marked-once _ _ _ _ (rw (c .before .before .before .before .before .bits .ensures)))
+returns-3 c = λ st w. rw (sym (c .before .before .before .before .before .bit .ensures) ∙ c .before .before .before .before .if1 .left, sym (c .before .before .before .before .before .before .bits2 .ensures) ∙ c .before .before .if3 .taken) (marked-once _ _ _ _ (rw (place-control, c .before .set-known2 .ensures w, place-flags, c .before .before .before .core-known .ensures w, c .before .before .before .before .before .before .before .bits .ensures) at (c .set-known3 .ensures w)))
+
+set-known-requires-4 : tie.Need-set-known-requires-4
+set-known-requires-4 c κs = search needs
 
 returns-4 : tie.Need-returns-4
-returns-4 c = λ s st w. rw (sym (c .before .before .before .before .bit .ensures) ∙ c .before .before .before .if1 .left, sym (c .before .before .before .before .before .bits2 .ensures) ∙ c .if4 .taken) (marked-once _ _ _ _ (rw (c .before .before .before .before .before .before .bits .ensures)))
+returns-4 c = λ st w. rw (sym (c .before .before .before .before .before .bit .ensures) ∙ c .before .before .before .before .if1 .left, sym (c .before .before .before .before .before .before .bits2 .ensures) ∙ c .before .if4 .taken) (marked-once _ _ _ _ (rw (place-exc, c .before .before .before .core-known .ensures w, c .before .before .before .before .before .before .before .bits .ensures) at (c .set-known4 .ensures w)))
 
 returns-5 : tie.Need-returns-5
-returns-5 c = λ s st w. rw (sym (c .before .before .before .before .bit .ensures) ∙ c .before .before .before .if1 .left, ne-eqb _ _ (rw (c .before .before .before .before .before .bits2 .ensures) at (c .before .if3 .left)), ne-eqb _ _ (rw (c .before .before .before .before .before .bits2 .ensures) at (c .if4 .left))) (marked-once _ _ _ _ refl)
+returns-5 c = λ st w. rw (sym (c .before .before .before .before .bit .ensures) ∙ c .before .before .before .if1 .left, ne-eqb _ _ (rw (c .before .before .before .before .before .bits2 .ensures) at (c .before .if3 .left)), ne-eqb _ _ (rw (c .before .before .before .before .before .bits2 .ensures) at (c .if4 .left))) (marked-once _ _ _ _ refl)
 
 pub mark-system-spec : {M : Type 1} → statement M
 mark-system-spec =
@@ -59,11 +71,15 @@ mark-system-spec =
     bits-requires-2
     bit-requires
     flags-known-requires
+    set-known-requires
     returns
     value-known-requires
-    element-write-kr
+    mark-core-requires
     returns-2
-    element-copy-out-b
+    core-known-requires
+    set-known-requires-2
+    set-known-requires-3
     returns-3
+    set-known-requires-4
     returns-4
     returns-5)

@@ -1,0 +1,3 @@
+-- The word of marks.
+pub mod Word
+pub mod Register

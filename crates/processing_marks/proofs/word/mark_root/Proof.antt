@@ -1,0 +1,20 @@
+-- `processing_marks::word::mark_root` meets its contract.
+use lib.Ieee.{binary32}
+use Rattle.steps.specs.Root.{rootStep}
+use Rattle.processing_marks.proofs.Steps.{root-copies}
+use borrow.Author.Needs.{needs}
+use Rattle.processing_marks.proofs.word.mark_root.Statement.{statement}
+use Rattle.processing_marks.proofs.word.mark_root.Tie as tie
+
+pub mark-root-spec : {M : Type 1} → statement M
+mark-root-spec =
+    tie.close
+    (tie.spec
+    (λ c κs. search needs)
+    (λ c κs. search needs)
+    (λ c κs. search needs)
+    (λ c. rw (c .before .before .before .if1 .taken, ← c .before .before .double-d .ensures .0, ← c .before .double-m .ensures .0) (c .root-doubles .ensures))
+    (λ c κs. search needs)
+    (λ c κs. search needs)
+    (λ c κs. search needs)
+    (λ c. rw (c .before .before .before .if1 .left, ← c .before .before .single-d .ensures .0, ← c .before .single-m .ensures .0) (c .copy-singles .ensures (rootStep binary32 (c .before .before .before .before .args .control)) (root-copies (c .before .before .before .before .args .control)))))
