@@ -96,6 +96,37 @@ uint32_t fpu_watch(uint32_t *state, size_t state_words, uint64_t *marks, uint32_
  * another bit of nzcv is set. */
 uint32_t fpu_check_condition(uint32_t condition, uint32_t nzcv);
 
+/* The operations of data processing, by the manual's names, one for both precisions; FCVT is either conversion between them. */
+#define FPU_OPERATION_UNDEFINED 0
+#define FPU_OPERATION_FMAC 1
+#define FPU_OPERATION_FNMAC 2
+#define FPU_OPERATION_FMSC 3
+#define FPU_OPERATION_FNMSC 4
+#define FPU_OPERATION_FMUL 5
+#define FPU_OPERATION_FNMUL 6
+#define FPU_OPERATION_FADD 7
+#define FPU_OPERATION_FSUB 8
+#define FPU_OPERATION_FDIV 9
+#define FPU_OPERATION_FCPY 10
+#define FPU_OPERATION_FABS 11
+#define FPU_OPERATION_FNEG 12
+#define FPU_OPERATION_FSQRT 13
+#define FPU_OPERATION_FCMP 14
+#define FPU_OPERATION_FCMPE 15
+#define FPU_OPERATION_FCMPZ 16
+#define FPU_OPERATION_FCMPEZ 17
+#define FPU_OPERATION_FCVT 18
+#define FPU_OPERATION_FUITO 19
+#define FPU_OPERATION_FSITO 20
+#define FPU_OPERATION_FTOUI 21
+#define FPU_OPERATION_FTOUIZ 22
+#define FPU_OPERATION_FTOSI 23
+#define FPU_OPERATION_FTOSIZ 24
+
+/* The operation of a data-processing word, by its bits 23:20, 19:16, 7 and 6 alone: FPU_OPERATION_UNDEFINED, or one of the 24. Whether the word is data
+ * processing at all, and of coprocessor 10 or 11, is not looked at. */
+uint32_t fpu_operation(uint32_t word);
+
 /* Grants the words of a period to routines, each of a share, a limit and a number of words left: first to each the smaller of its share and its
  * words left, then what remains of the period in order from the first, round and round, one word at a time, to those under their limit with words
  * left. Nobody gets more than its limit or its words left, the grants together never exceed the period, and part of it stays unused only if no

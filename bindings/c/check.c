@@ -390,6 +390,23 @@ static void conditions(void)
         condition(14, 0x40000000 + bit, FPU_INVALID_ARGUMENT);
 }
 
+/* Of every operation a word, in the order of their numbers, and the same with all bits changed that are not looked at. */
+static void operations(void)
+{
+    static const uint32_t words[] = {
+        0xEE800A40, 0xEE000A00, 0xEE000A40, 0xEE100A00, 0xEE100A40, 0xEE200A00, 0xEE200A40, 0xEE300A00, 0xEE300A40,
+        0xEE800A00, 0xEEB00A40, 0xEEB00AC0, 0xEEB10A40, 0xEEB10AC0, 0xEEB40A40, 0xEEB40AC0, 0xEEB50A40, 0xEEB50AC0,
+        0xEEB70AC0, 0xEEB80A40, 0xEEB80AC0, 0xEEBC0A40, 0xEEBC0AC0, 0xEEBD0A40, 0xEEBD0AC0,
+    };
+    doing = "an operation";
+    for (uint32_t n = 0; n < sizeof words / sizeof *words; n++) {
+        same("the number", fpu_operation(words[n]), n);
+        same("the number", fpu_operation(words[n] ^ 0xFF00FF3F), n);
+    }
+    same("FADD", fpu_operation(0xEE300A00), FPU_OPERATION_FADD);
+    same("FTOSIZ", fpu_operation(0xEEBD0BC0), FPU_OPERATION_FTOSIZ);
+}
+
 /* A period's grants to so many routines; the lists have an element more than a call may touch. */
 static void granted(const char *name, uint32_t period, const uint32_t shares[10], const uint32_t limits[10], const uint32_t left[10],
                     size_t routines, uint32_t expected, const uint32_t grants[10])
@@ -440,6 +457,7 @@ int main(void)
     refusals();
     invalid_arguments();
     conditions();
+    operations();
     grants();
     doing = "every result is seen";
     for (size_t i = 0; i < sizeof every / sizeof *every; i++)

@@ -50,6 +50,7 @@ extern "C" {
         answer_words: usize,
     ) -> c_uint;
     fn fpu_check_condition(condition: u32, nzcv: u32) -> c_uint;
+    fn fpu_operation(word: u32) -> c_uint;
     fn fpu_grant(
         period: u32,
         shares: *const u32,
@@ -142,6 +143,10 @@ pub mod raw {
 
     pub fn check_condition(condition: u32, nzcv: u32) -> u32 {
         unsafe { super::fpu_check_condition(condition, nzcv) }
+    }
+
+    pub fn operation(word: u32) -> u32 {
+        unsafe { super::fpu_operation(word) }
     }
 
     pub fn grant(period: u32, shares: &[u32], limits: &[u32], left: &[u32], grants: &mut [u32]) -> u32 {
@@ -279,6 +284,50 @@ impl Machine {
             held => Ok(held == 1),
         }
     }
+}
+
+/// The operations of data processing, one for both precisions, in the order of their numbers.
+#[derive(Clone, Copy, PartialEq, Eq, Debug)]
+pub enum Operation {
+    Undefined,
+    Fmac,
+    Fnmac,
+    Fmsc,
+    Fnmsc,
+    Fmul,
+    Fnmul,
+    Fadd,
+    Fsub,
+    Fdiv,
+    Fcpy,
+    Fabs,
+    Fneg,
+    Fsqrt,
+    Fcmp,
+    Fcmpe,
+    Fcmpz,
+    Fcmpez,
+    Fcvt,
+    Fuito,
+    Fsito,
+    Ftoui,
+    Ftouiz,
+    Ftosi,
+    Ftosiz,
+}
+
+/// Every operation, by its number.
+pub const OPERATIONS: [Operation; 25] = {
+    use Operation::*;
+    [
+        Undefined, Fmac, Fnmac, Fmsc, Fnmsc, Fmul, Fnmul, Fadd, Fsub, Fdiv, Fcpy, Fabs, Fneg,
+        Fsqrt, Fcmp, Fcmpe, Fcmpz, Fcmpez, Fcvt, Fuito, Fsito, Ftoui, Ftouiz, Ftosi, Ftosiz,
+    ]
+};
+
+/// the operation of a data-processing word, by its bits 23:20, 19:16, 7 and 6 alone.
+pub fn operation(word: u32) -> Operation {
+    OPERATIONS[raw::operation(word) as usize]
 }
 
 /// A routine that takes words of a period.

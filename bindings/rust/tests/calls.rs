@@ -1,6 +1,6 @@
 //! A few calls by the wrapper, and what 255 does.
 
-use fpu::{grant, raw, Exit, InvalidArgument, Machine, Ran, Routine, Stop, TurnedAway, MARKS_ALL};
+use fpu::{grant, operation, raw, Exit, InvalidArgument, Machine, Operation, Ran, Routine, Stop, TurnedAway, MARKS_ALL, OPERATIONS};
 
 #[test]
 fn a_new_machine() {
@@ -87,6 +87,21 @@ fn conditions() {
     assert_eq!((m.check_condition(0), m.check_condition(1)), (Ok(true), Ok(false)));
     m.state[51] |= 1;
     assert_eq!(m.check_condition(0), Err(InvalidArgument));
+}
+
+// of every operation a word, in the order of their numbers; the last three differ from a sum, FADD, in bits that are not looked at
+#[test]
+fn operations() {
+    let words = [
+        0xEE80_0A40, 0xEE00_0A00, 0xEE00_0A40, 0xEE10_0A00, 0xEE10_0A40, 0xEE20_0A00, 0xEE20_0A40, 0xEE30_0A00, 0xEE30_0A40, 0xEE80_0A00, 0xEEB0_0A40,
+        0xEEB0_0AC0, 0xEEB1_0A40, 0xEEB1_0AC0, 0xEEB4_0A40, 0xEEB4_0AC0, 0xEEB5_0A40, 0xEEB5_0AC0, 0xEEB7_0AC0, 0xEEB8_0A40, 0xEEB8_0AC0, 0xEEBC_0A40,
+        0xEEBC_0AC0, 0xEEBD_0A40, 0xEEBD_0AC0,
+    ];
+    for (word, expected) in words.into_iter().zip(OPERATIONS) {
+        assert_eq!(operation(word), expected);
+        assert_eq!(operation(word ^ 0xFF00_FF3F), expected);
+    }
+    assert_eq!([0x0E30_0A00, 0xEE30_0B00, 0x0030_0000].map(operation), [Operation::Fadd; 3]);
 }
 
 // a sum, its compare with zero, the flags to NZCV, and a sum where they are equal

@@ -15,7 +15,10 @@ use Rattle.meaning.specs.Map.{Map, known}
 use Rattle.meaning.specs.Step.{step, nothing}
 use Rattle.meaning.specs.Stop.{Stop, foreign, Report, report, hangs, refused}
 use Rattle.meaning.specs.Tree.{Tree, stop, go, branch, ask, Next, on, last, halt, exitOf, plain, seen, watched}
-use Rattle.decoding.specs.Operation.{Operation, operationOf, fmac, fnmac, fmsc, fnmsc, fmul, fnmul, fadd, fsub, fdiv, fcpy, fabs, fneg, fsqrt, fcmp, fcmpe, fcmpz, fcmpez, fcvt, fuito, fsito, ftoui, ftouiz, ftosi, ftosiz, undefined}
+use Rattle.decoding.specs.declared.operation.Operation.the-variants as O
+use Rattle.decoding.specs.declared.operation.Operation.{Operation}
+use Rattle.decoding.specs.Operation.{operationOf}
+use Rattle.decoding.specs.declared.operation.Operation.the-variants.{Fmac, Fnmac, Fmsc, Fnmsc, Fmul, Fnmul, Fadd, Fsub, Fdiv, Fcpy, Fabs, Fneg, Fsqrt, Fcmp, Fcmpe, Fcmpz, Fcmpez, Fcvt, Fuito, Fsito, Ftoui, Ftouiz, Ftosi, Ftosiz}
 use Rattle.processing.specs.Data.{operationTree, dataTree, undefinedTree}
 use Rattle.transfers.specs.declared.Transfer.{Transfer}
 use Rattle.transfers.specs.declared.Transfer.the-variants.{System, Single, Nothing}
@@ -51,31 +54,31 @@ either false t u p q = q
 
 near-operation : (thumb : Bool) (f : Format) (w : ℕ) (o : Operation) → Near (operationTree thumb f w o)
 unfolding Near operationTree
-near-operation thumb f w fmac = (omega arith, λ v. refl)
-near-operation thumb f w fnmac = (omega arith, λ v. refl)
-near-operation thumb f w fmsc = (omega arith, λ v. refl)
-near-operation thumb f w fnmsc = (omega arith, λ v. refl)
-near-operation thumb f w fmul = (omega arith, λ v. refl)
-near-operation thumb f w fnmul = (omega arith, λ v. refl)
-near-operation thumb f w fadd = (omega arith, λ v. refl)
-near-operation thumb f w fsub = (omega arith, λ v. refl)
-near-operation thumb f w fdiv = (omega arith, λ v. refl)
-near-operation thumb f w fcpy = (omega arith, λ v. refl)
-near-operation thumb f w fabs = (omega arith, λ v. refl)
-near-operation thumb f w fneg = (omega arith, λ v. refl)
-near-operation thumb f w fsqrt = (omega arith, λ v. refl)
-near-operation thumb f w fcmp = refl
-near-operation thumb f w fcmpe = refl
-near-operation thumb f w fcmpz = refl
-near-operation thumb f w fcmpez = refl
-near-operation thumb f w fcvt = refl
-near-operation thumb f w fuito = refl
-near-operation thumb f w fsito = refl
-near-operation thumb f w ftoui = refl
-near-operation thumb f w ftouiz = refl
-near-operation thumb f w ftosi = refl
-near-operation thumb f w ftosiz = refl
-near-operation thumb f w undefined = (omega arith, λ v. (omega arith, omega arith))
+near-operation thumb f w Fmac = (omega arith, λ v. refl)
+near-operation thumb f w Fnmac = (omega arith, λ v. refl)
+near-operation thumb f w Fmsc = (omega arith, λ v. refl)
+near-operation thumb f w Fnmsc = (omega arith, λ v. refl)
+near-operation thumb f w Fmul = (omega arith, λ v. refl)
+near-operation thumb f w Fnmul = (omega arith, λ v. refl)
+near-operation thumb f w Fadd = (omega arith, λ v. refl)
+near-operation thumb f w Fsub = (omega arith, λ v. refl)
+near-operation thumb f w Fdiv = (omega arith, λ v. refl)
+near-operation thumb f w Fcpy = (omega arith, λ v. refl)
+near-operation thumb f w Fabs = (omega arith, λ v. refl)
+near-operation thumb f w Fneg = (omega arith, λ v. refl)
+near-operation thumb f w Fsqrt = (omega arith, λ v. refl)
+near-operation thumb f w Fcmp = refl
+near-operation thumb f w Fcmpe = refl
+near-operation thumb f w Fcmpz = refl
+near-operation thumb f w Fcmpez = refl
+near-operation thumb f w Fcvt = refl
+near-operation thumb f w Fuito = refl
+near-operation thumb f w Fsito = refl
+near-operation thumb f w Ftoui = refl
+near-operation thumb f w Ftouiz = refl
+near-operation thumb f w Ftosi = refl
+near-operation thumb f w Ftosiz = refl
+near-operation thumb f w O.Undefined = (omega arith, λ v. (omega arith, omega arith))
 
 near-undefined : (thumb : Bool) (w : ℕ) → Near (undefinedTree thumb w)
 unfolding Near

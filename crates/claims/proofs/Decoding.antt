@@ -1,53 +1,37 @@
--- The decoding's claims: a law of the index's bits, and two computations. Assumes nothing.
-use mathlib.Core.Path.{_≡_, refl}
-use Prim.Native.Nat.{ℕ, _+_, _*_, _/_, _%_, _^_, _<_}
-use native.Mathlib.Omega.{arith}
+-- The decoding's claims: laws of crate `decoding`, and two computations. Assumes nothing.
+use Prim.Native.Nat.{ℕ}
+use mathlib.Core.Path.{_≡_, refl, sym, _∙_, ap}
+use mathlib.Core.Bool.{Bool}
+use lib.Ieee.{binary32, binary64}
 use Rattle.bits.specs.Field.{field}
 use Rattle.meaning.specs.Tree.{plain}
-use Rattle.decoding.specs.Operation.{arithmetics, extensionBy, operationBy, operationOf, operationAt, indexOf}
+use Rattle.decoding.specs.Operation.{arithmetics, extensionBy, operationBy, operationOf, operationNumbered}
+use Rattle.decoding.specs.Table.{operationAt, entries, operationTable}
+use Rattle.decoding.proofs.Entries.{by-index, entry, entry-of, numbered-number}
 use Rattle.processing.specs.Data.{operationTree, dataTree}
-use Rattle.claims.specs.Decoding.{undefinedBelow, Decoding}
+use Rattle.claims.specs.Decoding.{undefinedIn, entryOf, Decoding}
 
--- the index's fields are the word's
-index-top : (a b c : ℕ) → a < 16 → b < 16 → c < 4 → (a * 64 + b * 4 + c) / 64 ≡ a
-index-top a b c x y z = omega arith
+operation-entry : (w : ℕ) → operationOf w ≡ entryOf w
+operation-entry w = sym (ap operationNumbered (entry-of w) ∙ numbered-number _)
 
-word-top : (w : ℕ) → w / 2 ^ 20 % 16 / 8 % 2 ≡ w / 2 ^ 23 % 2
-word-top w = omega arith
+single-entry : (thumb : Bool) (w : ℕ) → field w 8 11 ≡ 10 → dataTree thumb w ≡ operationTree thumb binary32 w (entryOf w)
+unfolding dataTree
+single-entry thumb w e = rw (e, operation-entry w)
 
-word-middle : (w : ℕ) → w / 2 ^ 20 % 16 % 4 ≡ w / 2 ^ 20 % 4
-word-middle w = omega arith
-
-divided-further : (i : ℕ) → i / 512 ≡ i / 64 / 8
-divided-further i = omega arith
-
-index-part : (w : ℕ) → indexOf w / 64 ≡ field w 20 23
-index-part w = index-top (field w 20 23) (field w 16 19) (field w 6 7) (omega arith) (omega arith) (omega arith)
-
-top-kind : (w : ℕ) → field (indexOf w) 9 9 ≡ field w 23 23
-top-kind w = rw (divided-further (indexOf w), index-part w) (word-top w)
-
-middle-kind : (w : ℕ) → field (indexOf w) 6 7 ≡ field w 20 21
-middle-kind w = rw (index-part w) (word-middle w)
-
-low-kind : (w : ℕ) → indexOf w % 2 ≡ field w 6 6
-low-kind w = omega arith
-
-opc2-bits : (w : ℕ) → field (indexOf w) 2 5 ≡ field w 16 19
-opc2-bits w = omega arith
-
-top-bit : (w : ℕ) → field (indexOf w) 1 1 ≡ field w 7 7
-top-bit w = omega arith
-
-by-index : (w : ℕ) → operationOf w ≡ operationAt (indexOf w)
-unfolding operationOf operationAt
-by-index w = rw (top-kind w, middle-kind w, low-kind w, opc2-bits w, top-bit w)
+double-entry : (thumb : Bool) (w : ℕ) → field w 8 11 ≡ 11 → dataTree thumb w ≡ operationTree thumb binary64 w (entryOf w)
+unfolding dataTree
+double-entry thumb w e = rw (e, operation-entry w)
 
 pub decoding : Decoding
-unfolding undefinedBelow operationAt operationOf operationBy extensionBy arithmetics dataTree operationTree plain
+unfolding undefinedIn operationTable entries operationAt operationOf operationBy extensionBy arithmetics dataTree operationTree plain
 decoding =
     record {
       by-index = by-index;
-      undefined-indices = refl;
+      entries = entry;
+      one-to-one = numbered-number;
+      by-entry = operation-entry;
+      in-single = single-entry;
+      in-double = double-entry;
+      undefined-entries = refl;
       widening-without-bit-7 = λ m v. refl;
     }

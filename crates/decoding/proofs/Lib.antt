@@ -1,3 +1,5 @@
 -- Laws of the crate's proofs.
 
-mod Divide
+pub mod Named
+pub mod Past
+pub mod Entries

@@ -1,12 +1,8 @@
 -- The fields of a data-processing word.
 use Prim.Native.Nat.{ℕ, _+_, _*_, _%_}
-use mathlib.Core.List.{List, [], _∷_}
-use lib.ListN.{getD}
 use lib.Ieee.{Format}
 use Rattle.bits.specs.Field.{field}
 use Rattle.machine.specs.Registers.{regOf}
-use Rattle.numbers.specs.declared.arithmetic.Arithmetic.{Arithmetic}
-use Rattle.numbers.specs.declared.arithmetic.Arithmetic.the-variants.{MultiplyAccumulate, MultiplySubtract, NegateMultiplySubtract, NegateMultiplyAccumulate, Multiply, NegateMultiply, Add, Subtract, Divide}
 
 -- the registers that a word names in a precision, and as a single whatever the precision
 abbrev pub regD : Format → ℕ → ℕ
@@ -21,10 +17,3 @@ regM f w = regOf f (w % 16) (field w 5 5)
 -- bits 23, 21, 20 and 6
 abbrev pub kindOf : ℕ → ℕ
 kindOf w = field w 23 23 * 8 + field w 20 21 * 2 + field w 6 6
-
--- the arithmetic of a kind below 9
-abbrev pub kinds : List Arithmetic
-kinds = MultiplyAccumulate ∷ MultiplySubtract ∷ NegateMultiplySubtract ∷ NegateMultiplyAccumulate ∷ Multiply ∷ NegateMultiply ∷ Add ∷ Subtract ∷ []
-
-unfoldable pub arithmeticAt : ℕ → Arithmetic
-arithmeticAt k = getD kinds k Divide

@@ -2,37 +2,12 @@
 ghost use mathlib.Core.Path.{_≡_};
 ghost use Prim.Native.Nat.{_<_};
 ghost use lib.Ieee.{binary32, binary64};
-ghost use Rattle.decoding.specs.Fields.{regD, regN, regM, kindOf, arithmeticAt};
+ghost use Rattle.decoding.specs.Fields.{regD, regN, regM};
 use bits::field::bits;
 use machine::registers::Double;
 use machine::registers::Single;
 use machine::registers::dreg;
 use machine::registers::sreg;
-use numbers::arithmetic::Arithmetic;
-
-// Bits 23, 21, 20 and 6 as a number. Bit 22 is the extra bit of d.
-pub fn kind(op: u32) -> u32
-    ensures { λ r. ⌜ (r ≡ kindOf op) × (r < 16) ⌝ }
-{
-    bits(op, 23, 23) * 8 + bits(op, 20, 21) * 2 + bits(op, 6, 6)
-}
-
-// The arithmetic of a kind; the last stands for every other.
-pub fn arithmetic_of(k: u32) -> Arithmetic
-    ensures { λ r. ⌜ r ≡ arithmeticAt k ⌝ }
-{
-    match k {
-        0 => Arithmetic::MultiplyAccumulate,
-        1 => Arithmetic::MultiplySubtract,
-        2 => Arithmetic::NegateMultiplySubtract,
-        3 => Arithmetic::NegateMultiplyAccumulate,
-        4 => Arithmetic::Multiply,
-        5 => Arithmetic::NegateMultiply,
-        6 => Arithmetic::Add,
-        7 => Arithmetic::Subtract,
-        _ => Arithmetic::Divide,
-    }
-}
 
 pub fn single_d(op: u32) -> Single
     ensures { λ x. ⌜ (x .0 ≡ regD binary32 op) × (x .0 < 32) ⌝ }

@@ -1,2 +1,4 @@
 // Which registers and which operation a data-processing word names.
 pub mod fields;
+pub mod operation;
+pub mod table;

@@ -1,4 +1,5 @@
-// Runs a list of instruction words under the watch, and tells where the run stops, what it hangs on and what is known then.
+// Runs a list of instruction words under the watch, and tells where the run stops, what it hangs on and what is known then; with --list, lists
+// the words with their addresses in the manual's spelling instead.
 //
 // It reads the file that its argument names, or standard input, one item a line:
 //
@@ -16,11 +17,15 @@
 ghost use mathlib.Core.Path.{_≡_};
 ghost use lib.ListN.{length};
 
+mod arguments;
 mod input;
 mod mistakes;
 mod outcome;
 mod output;
+mod words;
 
+use arguments::Mode;
+use arguments::mode_of;
 use input::Input;
 use libc::STDIN_FILENO;
 use libc::STDOUT_FILENO;
@@ -31,8 +36,8 @@ use script::text::Taken;
 // The word of marks in which every place is known: a bit for each place before the window.
 const ALL_KNOWN: u64 = 0xF_FFFF_FFFF_FFFF;
 
-// Reads the text, and runs what it says.
-fn run_text(text: &[u8]) {
+// Reads the text, and does with it what the mode says.
+fn take_text(mode: Mode, text: &[u8]) {
     let mut state = [0u32; WINDOW];
     let mut marks = ALL_KNOWN;
     let mut window = [0u32; 16384];
@@ -49,8 +54,33 @@ fn run_text(text: &[u8]) {
     );
     match taken {
         Taken::Wrong { line, mistake } => mistakes::print_mistake(line, mistake),
-        Taken::All(layout) => run_list(layout, state, marks, window, window_marks, list),
+        Taken::All(layout) => {
+            carry_out(mode, layout, state, marks, window, window_marks, list);
+        }
     }
+}
+
+fn carry_out(
+    mode: Mode,
+    layout: Layout,
+    state: [u32; WINDOW],
+    marks: u64,
+    window: [u32; 16384],
+    window_marks: [u8; 16384],
+    list: [u32; 4096],
+) {
+    match mode {
+        Mode::Run => run_list(layout, state, marks, window, window_marks, list),
+        Mode::List => list_words(layout, state, marks, list),
+    }
+}
+
+fn list_words(layout: Layout, state: [u32; WINDOW], marks: u64, list: [u32; 4096]) {
+    let count = layout.count;
+    if 4096 < count {
+        return;
+    }
+    words::list(state, marks, &list[..count]);
 }
 
 // Runs the list, and tells what came of it beside what was there before.
@@ -116,14 +146,14 @@ fn room() -> [u8; 524288]
     [0; 524288]
 }
 
-// A text that fills its room may go on: it is not run.
-fn run_input(fd: i32, name: &[u8]) {
+// A text that fills its room may go on: it is not taken.
+fn take_input(mode: Mode, fd: i32, name: &[u8]) {
     let mut text = room();
     match input::read_all(fd, &mut text) {
         Input::Failed => os::fail(name),
         Input::Bytes(n) => {
             if n < 524288 {
-                run_text(&text[..n]);
+                take_text(mode, &text[..n]);
                 return;
             }
             mistakes::too_long(&text);
@@ -131,18 +161,10 @@ fn run_input(fd: i32, name: &[u8]) {
     }
 }
 
-fn main() {
-    let given = os::arg_count();
-    if given < 2 {
-        run_input(STDIN_FILENO, b"standard input");
-        return;
-    }
-    if 2 < given {
-        io::write_all(STDOUT_FILENO, b"usage: fpurun [FILE]\n");
-        return;
-    }
+// The file that an argument names.
+fn take_file(mode: Mode, argument: usize) {
     let mut path = io::buffer();
-    let n = os::arg(1, &mut path);
+    let n = os::arg(argument, &mut path);
     if os::errno() != 0 {
         os::fail(b"the file's name");
         return;
@@ -152,6 +174,31 @@ fn main() {
         os::fail(&path[..n]);
         return;
     }
-    run_input(fd, &path[..n]);
+    take_input(mode, fd, &path[..n]);
     libc::close(fd);
+}
+
+// The file of an argument, or standard input where there are no more arguments.
+fn take_argument(mode: Mode, argument: usize) {
+    let given = os::arg_count();
+    if given <= argument {
+        take_input(mode, STDIN_FILENO, b"standard input");
+        return;
+    }
+    if argument + 1 < given {
+        io::write_all(STDOUT_FILENO, b"usage: fpurun [--list] [FILE]\n");
+        return;
+    }
+    take_file(mode, argument);
+}
+
+// A first argument that names a mode stands before the file.
+fn main() {
+    let mut word = io::buffer();
+    let n = os::arg(1, &mut word);
+    let mode = mode_of(&word[..n]);
+    match mode {
+        Mode::Run => take_argument(Mode::Run, 1),
+        Mode::List => take_argument(Mode::List, 2),
+    }
 }

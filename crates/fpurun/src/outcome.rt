@@ -1,6 +1,7 @@
 // Writes what came of a run: the stop, the places that are unknown, and what changed. What each line says is a definition of crates `report`
 // and `place_lines`.
 use super::output::print;
+use super::words;
 use libc::STDOUT_FILENO;
 use machine::place::WINDOW;
 use place_lines::place;
@@ -17,6 +18,7 @@ pub fn stop(kind: u32, answer: [u32; 4], list: &[u32], state: &[u32], marks: u64
     let count = answer[0] as usize;
     print(line::stop(kind, count, answer[1], answer[2], list, state, marks));
     text(b"\n");
+    words::operation(kind, count, list);
     print(line::ran(count, list.len()));
     text(b"\n");
 }

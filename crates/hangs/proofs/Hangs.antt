@@ -1,7 +1,10 @@
 -- Which place a word hangs on, by the tests that the code makes.
 use Prim.Native.Nat.{ℕ}
 use mathlib.Core.Path.{_≡_, refl, sym, _∙_}
+use mathlib.Core.List.{[], _∷_}
 use mathlib.Core.Bool.{true≢false}
+use denote.Enum.Declared.{tagOf}
+use types.Run.{OneOf}
 use mathlib.Core.Bool.{Bool, true, false, cond, _&&_}
 use lib.Dec.{eqb}
 use lib.Ieee.{Format, binary32, binary64}
@@ -12,11 +15,14 @@ use Rattle.meaning.specs.Map.{Map, known}
 use Rattle.meaning.specs.Step.{Step, nothing}
 use Rattle.meaning.specs.Tree.{Tree, go}
 use Rattle.meaning.specs.Hang.{Hang, clear, at, hangOf}
-use Rattle.decoding.specs.Operation as O
-use Rattle.decoding.specs.Operation.{Operation, extensionBy, operationOf}
+use Rattle.decoding.specs.declared.operation.Operation.the-variants as O
+use Rattle.decoding.specs.declared.operation.Operation.{Operation}
+use Rattle.decoding.specs.Operation.{operationNumbered, operationOf}
+use Rattle.decoding.proofs.operation.Operation.{the-type}
+use Rattle.decoding.proofs.Named.{one-of}
 use Rattle.meaning.proofs.Laws.{clear-go}
 use Rattle.decoding.specs.Fields.{regD}
-use Rattle.processing.specs.Data.{stepping, undefinedTree, operationTree, extensionTree, dataTree}
+use Rattle.processing.specs.Data.{stepping, undefinedTree, operationTree, dataTree}
 use Rattle.memory.specs.LoadStore.{accessTree, loadStoreTree}
 use Rattle.transfers.specs.declared.Transfer.{Transfer}
 use Rattle.transfers.specs.declared.Transfer.the-variants.{System, Single, Nothing}
@@ -48,31 +54,31 @@ module _ (st : State) (μ : Map) (p : known μ control ≡ true) (q : known μ (
 
   operation-known : (f : Format) (w : ℕ) (o : Operation) → clear ≡ hangOf (operationTree false f w o) st μ
   unfolding operationTree
-  operation-known f w O.fmac = stepping-known f (regD f w) _
-  operation-known f w O.fnmac = stepping-known f (regD f w) _
-  operation-known f w O.fmsc = stepping-known f (regD f w) _
-  operation-known f w O.fnmsc = stepping-known f (regD f w) _
-  operation-known f w O.fmul = stepping-known f (regD f w) _
-  operation-known f w O.fnmul = stepping-known f (regD f w) _
-  operation-known f w O.fadd = stepping-known f (regD f w) _
-  operation-known f w O.fsub = stepping-known f (regD f w) _
-  operation-known f w O.fdiv = stepping-known f (regD f w) _
-  operation-known f w O.fcpy = stepping-known f (regD f w) _
-  operation-known f w O.fabs = stepping-known f (regD f w) _
-  operation-known f w O.fneg = stepping-known f (regD f w) _
-  operation-known f w O.fsqrt = stepping-known f (regD f w) _
-  operation-known f w O.fcmp = clear-go _ st μ
-  operation-known f w O.fcmpe = clear-go _ st μ
-  operation-known f w O.fcmpz = clear-go _ st μ
-  operation-known f w O.fcmpez = clear-go _ st μ
-  operation-known f w O.fcvt = clear-go _ st μ
-  operation-known f w O.fuito = clear-go _ st μ
-  operation-known f w O.fsito = clear-go _ st μ
-  operation-known f w O.ftoui = clear-go _ st μ
-  operation-known f w O.ftouiz = clear-go _ st μ
-  operation-known f w O.ftosi = clear-go _ st μ
-  operation-known f w O.ftosiz = clear-go _ st μ
-  operation-known f w O.undefined = undefined-known w
+  operation-known f w O.Fmac = stepping-known f (regD f w) _
+  operation-known f w O.Fnmac = stepping-known f (regD f w) _
+  operation-known f w O.Fmsc = stepping-known f (regD f w) _
+  operation-known f w O.Fnmsc = stepping-known f (regD f w) _
+  operation-known f w O.Fmul = stepping-known f (regD f w) _
+  operation-known f w O.Fnmul = stepping-known f (regD f w) _
+  operation-known f w O.Fadd = stepping-known f (regD f w) _
+  operation-known f w O.Fsub = stepping-known f (regD f w) _
+  operation-known f w O.Fdiv = stepping-known f (regD f w) _
+  operation-known f w O.Fcpy = stepping-known f (regD f w) _
+  operation-known f w O.Fabs = stepping-known f (regD f w) _
+  operation-known f w O.Fneg = stepping-known f (regD f w) _
+  operation-known f w O.Fsqrt = stepping-known f (regD f w) _
+  operation-known f w O.Fcmp = clear-go _ st μ
+  operation-known f w O.Fcmpe = clear-go _ st μ
+  operation-known f w O.Fcmpz = clear-go _ st μ
+  operation-known f w O.Fcmpez = clear-go _ st μ
+  operation-known f w O.Fcvt = clear-go _ st μ
+  operation-known f w O.Fuito = clear-go _ st μ
+  operation-known f w O.Fsito = clear-go _ st μ
+  operation-known f w O.Ftoui = clear-go _ st μ
+  operation-known f w O.Ftouiz = clear-go _ st μ
+  operation-known f w O.Ftosi = clear-go _ st μ
+  operation-known f w O.Ftosiz = clear-go _ st μ
+  operation-known f w O.Undefined = undefined-known w
 
   pub data-known : (w : ℕ) → clear ≡ hangOf (dataTree false w) st μ
   unfolding dataTree
@@ -84,25 +90,23 @@ module _ (st : State) (μ : Map) (p : known μ control ≡ true) (q : known μ (
       by false true = operation-known binary64 w (operationOf w)
       by false false = undefined-known w
 
--- ---- the extension group, by bits 19:16
+-- ---- by the operation
 
-module _ (f : Format) (w k : ℕ) (p : k ≡ field w 16 19) (st : State) (μ : Map) where
-  -- where bit 7 makes no difference
-  pub either-bit : (n : ℕ) → k ≡ n → (h : Hang) → h ≡ hangOf (operationTree false f w (extensionBy n true)) st μ → h ≡ hangOf (operationTree false f w (extensionBy n false)) st μ
-      → h ≡ hangOf (extensionTree f w false) st μ
-  either-bit n e h p′ q′ = rw (← p, e) (by (bitOf w 7))
-    where
-      by : (b : Bool) → h ≡ hangOf (operationTree false f w (extensionBy n b)) st μ
-      by true = p′
-      by false = q′
+module _ (f : Format) (w : ℕ) (o : Operation) (st : State) (μ : Map) where
+  pub operation-steps : OneOf (1 ∷ 2 ∷ 3 ∷ 4 ∷ 5 ∷ 6 ∷ 7 ∷ 8 ∷ 9 ∷ 10 ∷ 11 ∷ 12 ∷ 13 ∷ []) (tagOf the-type o)
+      → cond (known μ control) clear (at (number control)) ≡ hangOf (operationTree false f w o) st μ
+  unfolding hangOf operationTree operationNumbered
+  operation-steps h =
+      one-of (λ p. cond (known μ control) clear (at (number control))) (λ p. hangOf (operationTree false f w p) st μ) (1 ∷ 2 ∷ 3 ∷ 4 ∷ 5 ∷ 6 ∷ 7 ∷ 8 ∷ 9 ∷ 10 ∷ 11 ∷ 12 ∷ 13 ∷ []) o h refl
 
-  pub convert-clear : k ≡ 7 → (b : Bool) → b ≡ bitOf w 7 → b ≡ true → clear ≡ hangOf (extensionTree f w false) st μ
-  unfolding hangOf operationTree extensionBy
-  convert-clear e b q r = rw (← p, e, ← q, r)
+  pub operation-clear : OneOf (14 ∷ 15 ∷ 16 ∷ 17 ∷ 18 ∷ 19 ∷ 20 ∷ 21 ∷ 22 ∷ 23 ∷ 24 ∷ []) (tagOf the-type o) → clear ≡ hangOf (operationTree false f w o) st μ
+  unfolding hangOf operationTree operationNumbered
+  operation-clear h =
+      one-of (λ p. clear) (λ p. hangOf (operationTree false f w p) st μ) (14 ∷ 15 ∷ 16 ∷ 17 ∷ 18 ∷ 19 ∷ 20 ∷ 21 ∷ 22 ∷ 23 ∷ 24 ∷ []) o h refl
 
-  pub convert-none : k ≡ 7 → (b : Bool) → b ≡ bitOf w 7 → b ≡ false → cond (known μ (core 15)) clear (at (number (core 15))) ≡ hangOf (extensionTree f w false) st μ
-  unfolding hangOf operationTree extensionBy
-  convert-none e b q r = rw (← p, e, ← q, r)
+  pub operation-none : o ≡ O.Undefined → cond (known μ (core 15)) clear (at (number (core 15))) ≡ hangOf (operationTree false f w o) st μ
+  unfolding hangOf operationTree
+  operation-none e = rw e
 
 -- ---- loads and stores
 

@@ -5,7 +5,7 @@ use mathlib.Core.Bool.{Bool, true, false, cond}
 use mathlib.Core.List.{List, []}
 use lib.Dec.{eqb}
 use lib.Ieee.{Format, binary32, binary64}
-use Rattle.bits.specs.Field.{field, bitOf}
+use Rattle.bits.specs.Field.{field}
 use Rattle.machine.specs.declared.Machine.{Machine}
 use Rattle.machine.specs.Machine.{withS, withFpscr}
 use Rattle.machine.specs.Place.{core, control, state}
@@ -22,8 +22,11 @@ use Rattle.steps.specs.Root.{rootStep}
 use Rattle.steps.specs.Compare.{compareStep, compareZeroStep}
 use Rattle.conversions.specs.Width.{widenStep, narrowStep}
 use Rattle.conversions.specs.Integer.{fromStep, truncateStep, roundStep}
-use Rattle.decoding.specs.Fields.{regD, regN, regM, arithmeticAt}
-use Rattle.decoding.specs.Operation.{Operation, extensionBy, operationOf, fmac, fnmac, fmsc, fnmsc, fmul, fnmul, fadd, fsub, fdiv, fcpy, fabs, fneg, fsqrt, fcmp, fcmpe, fcmpz, fcmpez, fcvt, fuito, fsito, ftoui, ftouiz, ftosi, ftosiz, undefined}
+use Rattle.decoding.specs.Fields.{regD, regN, regM}
+use Rattle.decoding.specs.declared.operation.Operation.the-variants as O
+use Rattle.decoding.specs.declared.operation.Operation.{Operation}
+use Rattle.decoding.specs.Operation.{operationOf}
+use Rattle.decoding.specs.declared.operation.Operation.the-variants.{Fmac, Fnmac, Fmsc, Fnmsc, Fmul, Fnmul, Fadd, Fsub, Fdiv, Fcpy, Fabs, Fneg, Fsqrt, Fcmp, Fcmpe, Fcmpz, Fcmpez, Fcvt, Fuito, Fsito, Ftoui, Ftouiz, Ftosi, Ftosiz}
 use Rattle.processing.specs.declared.Processed.{Processed}
 use Rattle.processing.specs.declared.Processed.the-variants.{Done, Undefined}
 
@@ -50,31 +53,31 @@ abbrev pub undefinedTree : Bool → ℕ → Tree
 undefinedTree thumb w = ask (core 15) (λ pc. stop (Stop.undefined ((pc + (2 ^ 32 - behind thumb)) % 2 ^ 32) w))
 
 unfoldable pub operationTree : Bool → Format → ℕ → Operation → Tree
-operationTree thumb f w fmac = dyadic f w MultiplyAccumulate
-operationTree thumb f w fnmac = dyadic f w MultiplySubtract
-operationTree thumb f w fmsc = dyadic f w NegateMultiplySubtract
-operationTree thumb f w fnmsc = dyadic f w NegateMultiplyAccumulate
-operationTree thumb f w fmul = dyadic f w Multiply
-operationTree thumb f w fnmul = dyadic f w NegateMultiply
-operationTree thumb f w fadd = dyadic f w Add
-operationTree thumb f w fsub = dyadic f w Subtract
-operationTree thumb f w fdiv = dyadic f w Divide
-operationTree thumb f w fcpy = monadic f w (λ c. signStep f Copy)
-operationTree thumb f w fabs = monadic f w (λ c. signStep f Absolute)
-operationTree thumb f w fneg = monadic f w (λ c. signStep f Negate)
-operationTree thumb f w fsqrt = monadic f w (rootStep f)
-operationTree thumb f w fcmp = go (once (compareStep f (regD f w) (regM f w)))
-operationTree thumb f w fcmpe = go (once (compareStep f (regD f w) (regM f w)))
-operationTree thumb f w fcmpz = go (once (compareZeroStep f (regD f w)))
-operationTree thumb f w fcmpez = go (once (compareZeroStep f (regD f w)))
-operationTree thumb f w fcvt = go (once (convertStep f w))
-operationTree thumb f w fuito = go (once (fromStep f false (regD f w) (regM binary32 w)))
-operationTree thumb f w fsito = go (once (fromStep f true (regD f w) (regM binary32 w)))
-operationTree thumb f w ftoui = go (once (roundStep f false (regD binary32 w) (regM f w)))
-operationTree thumb f w ftouiz = go (once (truncateStep f false (regD binary32 w) (regM f w)))
-operationTree thumb f w ftosi = go (once (roundStep f true (regD binary32 w) (regM f w)))
-operationTree thumb f w ftosiz = go (once (truncateStep f true (regD binary32 w) (regM f w)))
-operationTree thumb f w undefined = undefinedTree thumb w
+operationTree thumb f w Fmac = dyadic f w MultiplyAccumulate
+operationTree thumb f w Fnmac = dyadic f w MultiplySubtract
+operationTree thumb f w Fmsc = dyadic f w NegateMultiplySubtract
+operationTree thumb f w Fnmsc = dyadic f w NegateMultiplyAccumulate
+operationTree thumb f w Fmul = dyadic f w Multiply
+operationTree thumb f w Fnmul = dyadic f w NegateMultiply
+operationTree thumb f w Fadd = dyadic f w Add
+operationTree thumb f w Fsub = dyadic f w Subtract
+operationTree thumb f w Fdiv = dyadic f w Divide
+operationTree thumb f w Fcpy = monadic f w (λ c. signStep f Copy)
+operationTree thumb f w Fabs = monadic f w (λ c. signStep f Absolute)
+operationTree thumb f w Fneg = monadic f w (λ c. signStep f Negate)
+operationTree thumb f w Fsqrt = monadic f w (rootStep f)
+operationTree thumb f w Fcmp = go (once (compareStep f (regD f w) (regM f w)))
+operationTree thumb f w Fcmpe = go (once (compareStep f (regD f w) (regM f w)))
+operationTree thumb f w Fcmpz = go (once (compareZeroStep f (regD f w)))
+operationTree thumb f w Fcmpez = go (once (compareZeroStep f (regD f w)))
+operationTree thumb f w Fcvt = go (once (convertStep f w))
+operationTree thumb f w Fuito = go (once (fromStep f false (regD f w) (regM binary32 w)))
+operationTree thumb f w Fsito = go (once (fromStep f true (regD f w) (regM binary32 w)))
+operationTree thumb f w Ftoui = go (once (roundStep f false (regD binary32 w) (regM f w)))
+operationTree thumb f w Ftouiz = go (once (truncateStep f false (regD binary32 w) (regM f w)))
+operationTree thumb f w Ftosi = go (once (roundStep f true (regD binary32 w) (regM f w)))
+operationTree thumb f w Ftosiz = go (once (truncateStep f true (regD binary32 w) (regM f w)))
+operationTree thumb f w O.Undefined = undefinedTree thumb w
 
 -- coprocessor 10 is single precision and 11 double; any other is Undefined
 unfoldable pub dataTree : Bool → ℕ → Tree
@@ -84,20 +87,12 @@ dataTree thumb w =
     cond (eqb coproc 10) (operationTree thumb binary32 w (operationOf w))
     (cond (eqb coproc 11) (operationTree thumb binary64 w (operationOf w)) (undefinedTree thumb w))
 
--- the tree of a word in the extension group, and of a word of coprocessor 10 or 11
-abbrev pub extensionTree : Format → ℕ → Bool → Tree
-extensionTree f w thumb = operationTree thumb f w (extensionBy (field w 16 19) (bitOf w 7))
+-- the tree of an operation, and of a word of coprocessor 10 or 11
+abbrev pub namedTree : Format → ℕ → Operation → Bool → Tree
+namedTree f w o thumb = operationTree thumb f w o
 
 abbrev pub wordTree : Format → ℕ → Bool → Tree
-wordTree f w thumb = operationTree thumb f w (operationOf w)
-
--- arithmetic of a kind by its number, and a conversion to an integer
-abbrev pub dyadicTree : Format → ℕ → ℕ → Bool → Tree
-dyadicTree f w k thumb = dyadic f w (arithmeticAt k)
-
-abbrev pub integerTree : Format → ℕ → Bool → Bool → Bool → Tree
-integerTree f w true sign thumb = go (once (truncateStep f sign (regD binary32 w) (regM f w)))
-integerTree f w false sign thumb = go (once (roundStep f sign (regD binary32 w) (regM f w)))
+wordTree f w = namedTree f w (operationOf w)
 
 -- what a leaf over lent registers gives of a word with the tree t: what the tree says is done, or the word is Undefined and nothing is changed
 abbrev pub Handled : (Bool → Tree) → ℕ → List ℕ → ℕ → List ℕ → Processed → Type 0

@@ -1,28 +1,35 @@
 -- From the marks that a leaf leaves to those that its word means, over the precision.
-use Prim.Native.Nat.{ℕ, _%_, _^_, _<_}
-use mathlib.Core.Path.{_≡_, refl, _∙_}
-use native.Mathlib.Omega.{arith}
-use native.Mathlib.Decide.{ℕ-discrete}
+use Prim.Native.Nat.{ℕ, _%_, _^_}
+use mathlib.Core.Path.{_≡_, refl}
+use mathlib.Core.Bool.{Bool, cond}
+use mathlib.Core.List.{List, [], _∷_}
 use lib.Dec.{eqb}
-use mathlib.Core.Bool.{Bool, true, false, cond, _&&_}
-use lib.Ieee.{Format}
+use lib.Ieee.{Format, binary32}
+use denote.Enum.Declared.{tagOf}
+use types.Run.{OneOf}
 use Rattle.machine.specs.Machine.{withFpscr}
 use Rattle.machine.specs.Place.{control, core, state}
 use Rattle.meaning.specs.Step.{Step, once}
 use Rattle.meaning.specs.Tree.{Tree, go}
 use Rattle.meaning.proofs.Laws.{marked-ask, marked-family, marked-once, marked-stop}
 use Rattle.numbers.specs.declared.arithmetic.Arithmetic.{Arithmetic}
-use Rattle.bits.specs.Field.{field, bitOf}
 use Rattle.steps.specs.declared.sign.SignOperation.{SignOperation}
 use Rattle.steps.specs.declared.sign.SignOperation.the-variants.{Copy, Absolute, Negate}
-use Rattle.processing.proofs.Done.{extension-is}
 use Rattle.short_vectors.specs.Vector.{iterationsOf, monadicStep}
-use Rattle.decoding.specs.Operation.{extensionBy}
-use Rattle.steps.specs.Sign.{signStep}
 use Rattle.arithmetic_steps.specs.Arithmetic.{dyadicStep}
+use Rattle.steps.specs.Sign.{signStep}
+use Rattle.steps.specs.Root.{rootStep}
+use Rattle.steps.specs.Compare.{compareStep, compareZeroStep}
+use Rattle.conversions.specs.Integer.{fromStep, truncateStep, roundStep}
+use Rattle.decoding.specs.declared.operation.Operation.{Operation}
+use Rattle.decoding.specs.declared.operation.Operation.the-variants.{Fsqrt, Fcvt}
+use Rattle.decoding.specs.declared.operation.Operation.the-variants as O
 use Rattle.decoding.specs.Fields.{regD, regN, regM}
-use Rattle.processing.specs.Data.{stepping, dyadic, monadic, undefinedTree, operationTree, extensionTree}
+use Rattle.decoding.specs.Operation.{numberOf, operationNumbered, arithmeticOf}
+use Rattle.decoding.proofs.operation.Operation.{the-type}
+use Rattle.decoding.proofs.Named.{each, one-of}
 use Rattle.place_marks.specs.Word.{mapIn}
+use Rattle.processing.specs.Data.{stepping, dyadic, monadic, undefinedTree, operationTree, namedTree, convertStep}
 use Rattle.processing_marks.specs.Marked.{Marked, MarksStepped, MarksIterated}
 
 module _ (fpscr m m′ : ℕ) (t : Bool → Tree) where
@@ -56,27 +63,64 @@ undefined-marked fpscr m t w₀ e thumb q v w =
 pub marked-as : (t u : Bool → Tree) (fpscr m m′ : ℕ) → ((thumb : Bool) → u thumb ≡ t thumb) → Marked t fpscr m m′ → Marked u fpscr m m′
 marked-as t u fpscr m m′ e h thumb q v w = rw (e thumb) (h thumb q v w)
 
-pub sign-either : (f : Format) (w : ℕ) (thumb b : Bool) → operationTree thumb f w (extensionBy 0 b) ≡ monadic f w (λ c. signStep f (cond b Absolute Copy))
-unfolding operationTree extensionBy
-sign-either f w thumb true = refl
-sign-either f w thumb false = refl
+-- ---- by the operation
 
--- what becomes of the sign, by bits 19:16 below 2 and bit 7: VMOV, VABS, VNEG
-abbrev pub changeOf : ℕ → Bool → SignOperation
-changeOf k b = cond (eqb k 0) (cond b Absolute Copy) Negate
+-- what becomes of the sign
+abbrev signOf : Operation → SignOperation
+signOf o = cond (eqb (numberOf o) 10) Copy (cond (eqb (numberOf o) 11) Absolute Negate)
 
-pub sign-below : (f : Format) (w k : ℕ) (b thumb : Bool) → k ≡ field w 16 19 → b ≡ bitOf w 7 → k < 2 → eqb k 1 && b ≡ false
-    → extensionTree f w thumb ≡ monadic f w (λ c. signStep f (changeOf k b))
-unfolding operationTree extensionBy
-sign-below f w k b thumb p q l n = by (ℕ-discrete k 0)
-  where
-    plain : (x : ℕ) → x ≡ 1 → eqb x 1 && b ≡ false → b ≡ false
-    plain x e h = rw e at h
+module _ (f : Format) (w fpscr m m′ : ℕ) (o : Operation) where
+  abbrev Marks : Type 0
+  Marks = Marked (namedTree f w o) fpscr m m′
 
-    by : Dec (k ≡ 0) → extensionTree f w thumb ≡ monadic f w (λ c. signStep f (changeOf k b))
-    by (yes e) = extension-is f w thumb 0 b k b p e q refl ∙ sign-either f w thumb b ∙ rw e
-    by (no z) = let e : k ≡ 1 = omega (arith, z, l) in extension-is f w thumb 1 false k b p e q (plain k e n) ∙ rw e
+  pub arithmetic : (k : Arithmetic) → k ≡ arithmeticOf o → OneOf (1 ∷ 2 ∷ 3 ∷ 4 ∷ 5 ∷ 6 ∷ 7 ∷ 8 ∷ 9 ∷ []) (tagOf the-type o)
+      → MarksIterated (iterationsOf f (fpscr % 2 ^ 28) (regD f w)) (dyadicStep f (fpscr % 2 ^ 28) k (regD f w) (regN f w) (regM f w)) m m′ → Marks
+  unfolding operationTree operationNumbered
+  arithmetic k e h g =
+      dyadic-marked fpscr m m′ (namedTree f w o) f w (arithmeticOf o)
+      (λ thumb. one-of (λ p. operationTree thumb f w p) (λ p. dyadic f w (arithmeticOf p)) (1 ∷ 2 ∷ 3 ∷ 4 ∷ 5 ∷ 6 ∷ 7 ∷ 8 ∷ 9 ∷ []) o h refl) (rw (← e) g)
 
-pub both : (a b : Bool) → a && b ≡ true → (a ≡ true) × (b ≡ true)
-both true b e = (refl, e)
-both false b e = let z : _≡_ {A = ℕ} 0 1 = cc in absurd (omega arith)
+  pub signed : OneOf (10 ∷ 11 ∷ 12 ∷ []) (tagOf the-type o)
+      → ((sign : SignOperation) → MarksIterated (iterationsOf f (fpscr % 2 ^ 28) (regD f w)) (monadicStep f (fpscr % 2 ^ 28) (signStep f sign) (regD f w) (regM f w)) m m′) → Marks
+  unfolding operationTree operationNumbered
+  signed h g =
+      monadic-marked fpscr m m′ (namedTree f w o) f w (λ c. signStep f (signOf o))
+      (λ thumb. one-of (λ p. operationTree thumb f w p) (λ p. monadic f w (λ c. signStep f (signOf p))) (10 ∷ 11 ∷ 12 ∷ []) o h refl) (g (signOf o))
+
+  pub rooted : o ≡ Fsqrt → MarksIterated (iterationsOf f (fpscr % 2 ^ 28) (regD f w)) (monadicStep f (fpscr % 2 ^ 28) (rootStep f (fpscr % 2 ^ 28)) (regD f w) (regM f w)) m m′ → Marks
+  unfolding operationTree
+  rooted e g = monadic-marked fpscr m m′ (namedTree f w o) f w (rootStep f) (λ thumb. rw e) g
+
+  -- a word of one step, whichever of some operations it is
+  once-of : (ks : List ℕ) (x : Operation → Step) → OneOf ks (tagOf the-type o) → ((thumb : Bool) → each (λ p. operationTree thumb f w p) ks ≡ each (λ p. go (once (x p))) ks)
+      → MarksStepped (x o) m m′ → Marks
+  once-of ks x h e g = once-marked fpscr m m′ (namedTree f w o) (x o) (λ thumb. one-of (λ p. operationTree thumb f w p) (λ p. go (once (x p))) ks o h (e thumb)) g
+
+  pub compared : OneOf (14 ∷ 15 ∷ []) (tagOf the-type o) → MarksStepped (compareStep f (regD f w) (regM f w)) m m′ → Marks
+  unfolding operationTree operationNumbered
+  compared h g = once-of (14 ∷ 15 ∷ []) (λ p. compareStep f (regD f w) (regM f w)) h (λ thumb. refl) g
+
+  pub compared-zero : OneOf (16 ∷ 17 ∷ []) (tagOf the-type o) → MarksStepped (compareZeroStep f (regD f w)) m m′ → Marks
+  unfolding operationTree operationNumbered
+  compared-zero h g = once-of (16 ∷ 17 ∷ []) (λ p. compareZeroStep f (regD f w)) h (λ thumb. refl) g
+
+  pub converted : o ≡ Fcvt → MarksStepped (convertStep f w) m m′ → Marks
+  unfolding operationTree
+  converted e g = once-marked fpscr m m′ (namedTree f w o) (convertStep f w) (λ thumb. rw e) g
+
+  pub from-integer : OneOf (19 ∷ 20 ∷ []) (tagOf the-type o) → ((sign : Bool) → MarksStepped (fromStep f sign (regD f w) (regM binary32 w)) m m′) → Marks
+  unfolding operationTree operationNumbered
+  from-integer h g = once-of (19 ∷ 20 ∷ []) (λ p. fromStep f (eqb (numberOf p) 20) (regD f w) (regM binary32 w)) h (λ thumb. refl) (g (eqb (numberOf o) 20))
+
+  pub rounded : OneOf (21 ∷ 23 ∷ []) (tagOf the-type o) → ((sign : Bool) → MarksStepped (roundStep f sign (regD binary32 w) (regM f w)) m m′) → Marks
+  unfolding operationTree operationNumbered
+  rounded h g = once-of (21 ∷ 23 ∷ []) (λ p. roundStep f (eqb (numberOf p) 23) (regD binary32 w) (regM f w)) h (λ thumb. refl) (g (eqb (numberOf o) 23))
+
+  pub truncated : OneOf (22 ∷ 24 ∷ []) (tagOf the-type o) → ((sign : Bool) → MarksStepped (truncateStep f sign (regD binary32 w) (regM f w)) m m′) → Marks
+  unfolding operationTree operationNumbered
+  truncated h g = once-of (22 ∷ 24 ∷ []) (λ p. truncateStep f (eqb (numberOf p) 24) (regD binary32 w) (regM f w)) h (λ thumb. refl) (g (eqb (numberOf o) 24))
+
+-- an Undefined operation changes no mark
+pub undefined : (f : Format) (w fpscr m : ℕ) (o : Operation) → o ≡ O.Undefined → Marked (namedTree f w o) fpscr m m
+unfolding operationTree
+undefined f w fpscr m o e = undefined-marked fpscr m (namedTree f w o) w (λ thumb. rw e)

@@ -8,12 +8,11 @@ use Rattle.machine.specs.declared.Machine.{Machine}
 use Rattle.machine.specs.Machine.{withFpscr}
 use Rattle.machine.specs.Place.{state}
 use Rattle.meaning.specs.Map.{Map}
-use Rattle.meaning.specs.Step.{Step, stepMarks, afterMarks, once}
-use Rattle.meaning.specs.Tree.{Tree, go}
+use Rattle.meaning.specs.Step.{Step, stepMarks, afterMarks}
+use Rattle.meaning.specs.Tree.{Tree}
 use Rattle.meaning.specs.Hang.{marked}
 use Rattle.place_marks.specs.Word.{mapIn}
 use Rattle.place_marks.specs.Register.{knownIn, copyIn}
-use Rattle.processing.specs.Data.{convertStep}
 
 -- m′ has the marks of m after a step, and after the first n of a family
 abbrev pub MarksStepped : Step → ℕ → ℕ → Type 0
@@ -34,7 +33,3 @@ Copies f one = (d m : ℕ) (μ : Map) → stepMarks (one d m) μ ≡ copyIn f μ
 abbrev pub allIn : Format → Map → List ℕ → Bool
 allIn f μ [] = true
 allIn f μ (n ∷ ns) = allIn f μ ns && knownIn f μ n
-
--- a conversion between the widths
-abbrev pub convertTree : Format → ℕ → Bool → Tree
-convertTree f w thumb = go (once (convertStep f w))

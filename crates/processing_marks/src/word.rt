@@ -8,13 +8,13 @@ ghost use Rattle.steps.specs.declared.sign.SignOperation.{SignOperation};
 ghost use Rattle.steps.specs.Sign.{signStep};
 ghost use Rattle.steps.specs.Root.{rootStep};
 ghost use Rattle.arithmetic_steps.specs.Arithmetic.{dyadicStep};
-ghost use Rattle.conversions.specs.Integer.{fromStep};
+ghost use Rattle.conversions.specs.Integer.{fromStep, truncateStep, roundStep};
 ghost use Rattle.decoding.specs.Fields.{regD, regN, regM};
+ghost use Rattle.processing.specs.Data.{convertStep};
 ghost use Rattle.place_marks.specs.Word.{mapIn};
 ghost use Rattle.place_marks.specs.Register.{knownIn};
 ghost use lib.Ieee.{binary32};
-ghost use Rattle.processing.specs.Data.{integerTree};
-ghost use Rattle.processing_marks.specs.Marked.{Marked, MarksStepped, MarksIterated, convertTree};
+ghost use Rattle.processing_marks.specs.Marked.{MarksStepped, MarksIterated};
 use super::vector::arithmetic_doubles;
 use super::vector::arithmetic_singles;
 use super::vector::copy_doubles;
@@ -114,7 +114,7 @@ pub(crate) fn mark_from_integer(marks: u64, double: bool, op: u32) -> u64
 
 // Narrowing needs FPSCR 27:0, since it flushes; widening does not.
 pub(crate) fn mark_convert(marks: u64, double: bool, op: u32) -> u64
-    ensures { λ y. ⌜ ((fpscr : ℕ) → Marked (convertTree (precision double) op) fpscr marks y) ⌝ }
+    ensures { λ y. ⌜ MarksStepped (convertStep (precision double) op) marks y ⌝ }
 {
     if double {
         let all = double_known(marks, double_m(op)) & is_known(marks, CONTROL);
@@ -124,13 +124,17 @@ pub(crate) fn mark_convert(marks: u64, double: bool, op: u32) -> u64
     mark_double(marks, double_d(op), all)
 }
 
-// To an integer: by the mode FPSCR 27:0 is needed too, towards zero it is not.
-pub(crate) fn mark_integer(marks: u64, double: bool, top: bool, op: u32) -> u64
-    ensures { λ y. ⌜ ((signed : Bool) (fpscr : ℕ) → Marked (integerTree (precision double) op top signed) fpscr marks y) ⌝ }
+// To an integer by the mode: FPSCR 27:0 is needed too.
+pub(crate) fn mark_rounded(marks: u64, double: bool, op: u32) -> u64
+    ensures { λ y. ⌜ ((signed : Bool) → MarksStepped (roundStep (precision double) signed (regD binary32 op) (regM (precision double) op)) marks y) ⌝ }
 {
-    if top {
-        return mark_single(marks, single_d(op), m_known(marks, double, op));
-    }
     let all = m_known(marks, double, op) & is_known(marks, CONTROL);
     mark_single(marks, single_d(op), all)
+}
+
+// Towards zero it is not.
+pub(crate) fn mark_truncated(marks: u64, double: bool, op: u32) -> u64
+    ensures { λ y. ⌜ ((signed : Bool) → MarksStepped (truncateStep (precision double) signed (regD binary32 op) (regM (precision double) op)) marks y) ⌝ }
+{
+    mark_single(marks, single_d(op), m_known(marks, double, op))
 }

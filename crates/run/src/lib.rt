@@ -3,8 +3,10 @@ ghost use mathlib.Core.Path.{_≡_};
 ghost use mathlib.Core.Bool.{false};
 ghost use Rattle.machine.specs.Place.{state};
 ghost use Rattle.meaning.specs.Run as R;
+ghost use Rattle.decoding.specs.Table.{operationTable};
 ghost use Rattle.run_word.specs.Word.{meaning};
 ghost use Rattle.run.specs.Run.{answered, reply, runReply};
+use decoding::table::operations;
 use limits::limit::run_limit;
 use machine::Machine;
 use progress::Progress;
@@ -26,12 +28,19 @@ pub fn run(machine: Machine, window: &mut [u32], base: u32, list: &[u32]) -> Ran
             machine,
         };
     }
-    run_words(machine, window, base, list)
+    let table = operations();
+    run_words(&table, machine, window, base, list)
 }
 
-// The run within the limits. The registers are locals that are lent to each word.
-fn run_words(machine: Machine, window: &mut [u32], base: u32, list: &[u32]) -> Ran
-    requires { ⌜ machine .thumb ≡ false ⌝ }
+// The run within the limits. The decode table, and the registers as locals, are lent to each word.
+fn run_words(
+    table: &[u8; 1024],
+    machine: Machine,
+    window: &mut [u32],
+    base: u32,
+    list: &[u32],
+) -> Ran
+    requires { ⌜ (machine .thumb ≡ false) × (now table ≡ operationTable) ⌝ }
     ensures { λ a. ⌜ answered a (now (window .exit)) ≡ reply (R.run (meaning base) (now (list .entry)) 0 (state machine (now (window .entry)))) ⌝ }
 {
     let begun = Progress::new(machine);
@@ -41,7 +50,7 @@ fn run_words(machine: Machine, window: &mut [u32], base: u32, list: &[u32]) -> R
     let mut i: usize = 0;
     while i < list.len() {
         let op = list[i];
-        let done = execute(&mut s, &mut r, x, window, base, op);
+        let done = execute(table, &mut s, &mut r, x, window, base, op);
         x = done.controls;
         let next = done.next;
         match next {

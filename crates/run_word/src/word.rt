@@ -7,6 +7,7 @@ ghost use lib.ListN.{getD, set};
 ghost use Rattle.machine.specs.Machine.{assembled};
 ghost use Rattle.machine.specs.Place.{state};
 ghost use Rattle.meaning.specs.Tree.{out, plain};
+ghost use Rattle.decoding.specs.Table.{operationTable};
 ghost use Rattle.transfers.specs.Transfer.{transferTree};
 ghost use Rattle.run_word.specs.Word.{foreignWord, classTree, meaning};
 ghost use Rattle.run_word.specs.Stop.{nextOf};
@@ -30,8 +31,9 @@ pub struct Executed {
     pub next: Next,
 }
 
-// A word, without the growth of r15.
+// A word, without the growth of r15. The decode table is lent.
 pub fn execute(
+    table: &[u8; 1024],
     s: &mut [u32; 32],
     r: &mut [u32; 16],
     x: Controls,
@@ -39,6 +41,7 @@ pub fn execute(
     base: u32,
     op: u32,
 ) -> Executed
+    requires { ⌜ now table ≡ operationTable ⌝ }
     ensures { λ e. ⌜ out (state (assembled (now (s .exit)) (now (r .exit)) (e .controls) false) (now (window .exit))) (nextOf (e .next)) ≡ plain (meaning base op) (state (assembled (now (s .entry)) (now (r .entry)) x false) (now (window .entry))) ⌝ }
 {
     if foreign(op) {
@@ -49,7 +52,7 @@ pub fn execute(
     }
     let flags = x.cpsr;
     if check_condition(bits(op, 28, 31), flags) {
-        return perform(s, r, x, window, base, op);
+        return perform(table, s, r, x, window, base, op);
     }
     Executed {
         controls: x,
@@ -67,6 +70,7 @@ pub fn foreign(op: u32) -> bool
 
 // A word whose condition holds, by its class.
 pub fn perform(
+    table: &[u8; 1024],
     s: &mut [u32; 32],
     r: &mut [u32; 16],
     x: Controls,
@@ -74,6 +78,7 @@ pub fn perform(
     base: u32,
     op: u32,
 ) -> Executed
+    requires { ⌜ now table ≡ operationTable ⌝ }
     ensures { λ e. ⌜ out (state (assembled (now (s .exit)) (now (r .exit)) (e .controls) false) (now (window .exit))) (nextOf (e .next)) ≡ plain (classTree base op) (state (assembled (now (s .entry)) (now (r .entry)) x false) (now (window .entry))) ⌝ }
 {
     if bits(op, 25, 27) == 0b110 {
@@ -86,7 +91,7 @@ pub fn perform(
     if bit(op, 4) {
         return transfer(s, r, x, op);
     }
-    let done = processing::data_processing(s, x.fpscr, op);
+    let done = processing::process(table, s, x.fpscr, op);
     match done {
         Processed::Done(fpscr) => {
             let cpsr = x.cpsr;

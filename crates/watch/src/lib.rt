@@ -5,10 +5,12 @@ ghost use Prim.Native.Nat.{_%_, _^_, _<_};
 ghost use Rattle.machine.specs.Place.{state};
 ghost use Rattle.machine.specs.Machine.{assembled};
 ghost use Rattle.meaning.specs.Run as R;
+ghost use Rattle.decoding.specs.Table.{operationTable};
 ghost use Rattle.place_marks.specs.Word.{mapIn};
 ghost use Rattle.run_word.specs.Word.{meaning};
 ghost use Rattle.watch.specs.Watch.{answered, reply};
 ghost use Rattle.watch.specs.Promise.{Promise, WordPromise};
+use decoding::table::operations;
 use limits::limit::watch_limit;
 use machine::Machine;
 use progress::Progress;
@@ -46,11 +48,13 @@ pub fn watch(
             marks,
         };
     }
-    watch_words(machine, marks, window, window_marks, base, list)
+    let table = operations();
+    watch_words(&table, machine, marks, window, window_marks, base, list)
 }
 
-// The watched run within the limits. Registers and marks are locals that are lent to each word.
+// The watched run within the limits. The decode table, and the registers as locals, are lent to each word; the marks go by value.
 fn watch_words(
+    table: &[u8; 1024],
     machine: Machine,
     marks: u64,
     window: &mut [u32],
@@ -58,7 +62,7 @@ fn watch_words(
     base: u32,
     list: &[u32],
 ) -> Watched
-    requires { ⌜ machine .thumb ≡ false ⌝ }
+    requires { ⌜ (machine .thumb ≡ false) × (now table ≡ operationTable) ⌝ }
     ensures { λ a. ⌜ (answered a (now (window .exit)) (now («window_marks» .exit)) ≡ reply (R.watch (meaning base) (now (list .entry)) 0 (state machine (now (window .entry))) (mapIn marks (now («window_marks» .entry))))) × (a .marks < 2 ^ 52) ⌝ }
 {
     let begun = Progress::new(machine);
@@ -69,7 +73,17 @@ fn watch_words(
     let mut i: usize = 0;
     while i < list.len() {
         let op = list[i];
-        let done = watch_word(&mut s, &mut r, x, window, known, window_marks, base, op);
+        let done = watch_word(
+            table,
+            &mut s,
+            &mut r,
+            x,
+            window,
+            known,
+            window_marks,
+            base,
+            op,
+        );
         x = done.controls;
         known = done.marks;
         let next = done.next;

@@ -12,7 +12,7 @@ use Rattle.meaning.specs.Step.{after, afterMarks}
 use Rattle.meaning.specs.Stop.{report, hangs}
 use Rattle.meaning.specs.Tree.{watched}
 use Rattle.processing.specs.Data.{operationTree, dataTree}
-use Rattle.decoding.specs.Operation.{extensionBy, arithmetics, operationBy, operationOf, operationAt}
+use Rattle.decoding.specs.Operation.{extensionBy, arithmetics, operationBy, operationOf}
 use Rattle.short_vectors.specs.Vector.{stepOf, secondOf}
 use Rattle.limits.specs.Marks.{bitsOnly}
 use Rattle.limits.specs.Limit.{windowLimit, runLimit, watchLimit}
@@ -40,5 +40,5 @@ pub record Claim : Type 0 where
   pub marks : answer .map ≡ allBut (0 ∷ 48 ∷ 51 ∷ [])
 
 pub claim : Claim
-unfolding watchReply watchLimit bitsOnly runLimit windowLimit R.watch R.followWith watched meaning classTree conditioned dataTree operationTree operationOf operationBy extensionBy arithmetics operationAt transferTree after afterMarks stepOf secondOf place
+unfolding watchReply watchLimit bitsOnly runLimit windowLimit R.watch R.followWith watched meaning classTree conditioned dataTree operationTree operationOf operationBy extensionBy arithmetics transferTree after afterMarks stepOf secondOf place
 claim = record { stops = refl; counts = refl; marks = refl }

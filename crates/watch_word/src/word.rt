@@ -8,6 +8,7 @@ ghost use Rattle.machine.specs.Machine.{assembled};
 ghost use Rattle.machine.specs.Place.{state};
 ghost use Rattle.meaning.specs.Tree.{seen, watched};
 ghost use Rattle.place_marks.specs.Word.{mapIn};
+ghost use Rattle.decoding.specs.Table.{operationTable};
 ghost use Rattle.processing.specs.Data.{dataTree};
 ghost use Rattle.memory.specs.LoadStore.{loadStoreTree};
 ghost use Rattle.transfers.specs.Transfer.{transferTree};
@@ -17,6 +18,7 @@ use access_marks::mark_load_store;
 use bits::field::bit;
 use bits::field::bits;
 use bits::psr::check_condition;
+use decoding::table::operation;
 use hangs::Hang;
 use hangs::access::hang_access;
 use hangs::data::hang_data;
@@ -43,8 +45,9 @@ pub struct Seen {
     pub next: Next,
 }
 
-// A word, without the growth of r15.
+// A word, without the growth of r15. The decode table is lent.
 pub fn watch_word(
+    table: &[u8; 1024],
     s: &mut [u32; 32],
     r: &mut [u32; 16],
     x: Controls,
@@ -54,6 +57,7 @@ pub fn watch_word(
     base: u32,
     op: u32,
 ) -> Seen
+    requires { ⌜ now table ≡ operationTable ⌝ }
     ensures { λ e. ⌜ seen (state (assembled (now (s .exit)) (now (r .exit)) (e .controls) false) (now (window .exit))) (mapIn (e .marks) (now («window_marks» .exit))) (nextOf (e .next)) ≡ watched (meaning base op) (state (assembled (now (s .entry)) (now (r .entry)) x false) (now (window .entry))) (mapIn marks (now («window_marks» .entry))) ⌝ }
 {
     if foreign(op) {
@@ -81,11 +85,12 @@ pub fn watch_word(
             };
         }
     }
-    watch_class(s, r, x, window, marks, window_marks, base, op)
+    watch_class(table, s, r, x, window, marks, window_marks, base, op)
 }
 
 // A word whose condition holds, by its class.
 fn watch_class(
+    table: &[u8; 1024],
     s: &mut [u32; 32],
     r: &mut [u32; 16],
     x: Controls,
@@ -95,6 +100,7 @@ fn watch_class(
     base: u32,
     op: u32,
 ) -> Seen
+    requires { ⌜ now table ≡ operationTable ⌝ }
     ensures { λ e. ⌜ seen (state (assembled (now (s .exit)) (now (r .exit)) (e .controls) false) (now (window .exit))) (mapIn (e .marks) (now («window_marks» .exit))) (nextOf (e .next)) ≡ watched (classTree base op) (state (assembled (now (s .entry)) (now (r .entry)) x false) (now (window .entry))) (mapIn marks (now («window_marks» .entry))) ⌝ }
 {
     if bits(op, 25, 27) == 0b110 {
@@ -103,7 +109,7 @@ fn watch_class(
     if bit(op, 4) {
         return watch_transfer(s, r, x, marks, op);
     }
-    watch_data(s, r, x, marks, op)
+    watch_data(table, s, r, x, marks, op)
 }
 
 // A load or store hangs on its base register.
@@ -176,10 +182,19 @@ fn watch_transfer(s: &mut [u32; 32], r: &mut [u32; 16], x: Controls, marks: u64,
 }
 
 // Data processing hangs on r15 where it is Undefined, and on FPSCR 27:0 where it steps.
-fn watch_data(s: &mut [u32; 32], r: &[u32; 16], x: Controls, marks: u64, op: u32) -> Seen
+fn watch_data(
+    table: &[u8; 1024],
+    s: &mut [u32; 32],
+    r: &[u32; 16],
+    x: Controls,
+    marks: u64,
+    op: u32,
+) -> Seen
+    requires { ⌜ now table ≡ operationTable ⌝ }
     ensures { λ e. ⌜ ((v w : List ℕ) → seen (state (assembled (now (s .exit)) (now (r .entry)) (e .controls) false) v) (mapIn (e .marks) w) (nextOf (e .next)) ≡ watched (dataTree false op) (state (assembled (now (s .entry)) (now (r .entry)) x false) v) (mapIn marks w)) ⌝ }
 {
-    let hang = hang_data(marks, op);
+    let o = operation(table, op);
+    let hang = hang_data(marks, o, op);
     match hang {
         Hang::At(place) => Seen {
             controls: x,
@@ -187,8 +202,8 @@ fn watch_data(s: &mut [u32; 32], r: &[u32; 16], x: Controls, marks: u64, op: u32
             next: Next::Halt(Stop::Hangs(place)),
         },
         Hang::Clear => {
-            let known = mark_data(marks, x.fpscr, op);
-            let done = processing::data_processing(s, x.fpscr, op);
+            let known = mark_data(marks, x.fpscr, o, op);
+            let done = processing::process(table, s, x.fpscr, op);
             match done {
                 Processed::Done(fpscr) => {
                     let cpsr = x.cpsr;

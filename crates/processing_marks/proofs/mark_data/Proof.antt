@@ -1,6 +1,6 @@
 -- `processing_marks::mark_data` meets its contract.
 use lib.Ieee.{binary32, binary64}
-use Rattle.processing.specs.Data.{dataTree, wordTree}
+use Rattle.processing.specs.Data.{dataTree, namedTree}
 use Rattle.processing.proofs.Done.{data-single, data-double, data-none}
 use Rattle.processing_marks.proofs.Done.{marked-as, undefined-marked}
 use borrow.Author.Needs.{needs}
@@ -13,7 +13,7 @@ mark-data-spec =
     (tie.spec
     (λ c κs. search needs)
     (λ c κs. search needs)
-    (λ c. let a = c .before .before .before .args in marked-as (wordTree binary32 (a .op)) (λ thumb. dataTree thumb (a .op)) (a .fpscr) (a .marks) _ (λ thumb. data-single (a .op) thumb _ (c .before .before .bits .ensures) (c .before .if1 .taken)) (c .mark-word .ensures))
+    (λ c. let a = c .before .before .before .args in marked-as (namedTree binary32 (a .op) (a .o)) (λ thumb. dataTree thumb (a .op)) (a .fpscr) (a .marks) _ (λ thumb. rw (← c .before .before .before .pre) at (data-single (a .op) thumb _ (c .before .before .bits .ensures) (c .before .if1 .taken))) (c .mark-operation .ensures))
     (λ c κs. search needs)
-    (λ c. let a = c .before .before .before .before .args in marked-as (wordTree binary64 (a .op)) (λ thumb. dataTree thumb (a .op)) (a .fpscr) (a .marks) _ (λ thumb. data-double (a .op) thumb _ (c .before .before .before .bits .ensures) (c .before .if2 .taken)) (c .mark-word2 .ensures))
+    (λ c. let a = c .before .before .before .before .args in marked-as (namedTree binary64 (a .op) (a .o)) (λ thumb. dataTree thumb (a .op)) (a .fpscr) (a .marks) _ (λ thumb. rw (← c .before .before .before .before .pre) at (data-double (a .op) thumb _ (c .before .before .before .bits .ensures) (c .before .if2 .taken))) (c .mark-operation2 .ensures))
     (λ c. let a = c .before .before .before .args in undefined-marked (a .fpscr) (a .marks) (λ thumb. dataTree thumb (a .op)) (a .op) (λ thumb. data-none (a .op) thumb _ (c .before .before .bits .ensures) (c .before .if1 .left) (c .if2 .left))))

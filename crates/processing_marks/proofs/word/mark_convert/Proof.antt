@@ -1,12 +1,9 @@
 -- `processing_marks::word::mark_convert` meets its contract.
-use mathlib.Core.Path.{refl, sym, _∙_}
+use mathlib.Core.Path.{sym, _∙_}
 use lib.Ieee.{binary32, binary64}
 use Rattle.place_marks.specs.Word.{mapIn}
 use Rattle.decoding.specs.Fields.{regD, regM}
 use Rattle.place_marks.proofs.Places.{place-control}
-use Rattle.conversions.specs.Width.{narrowStep, widenStep}
-use Rattle.processing_marks.specs.Marked.{convertTree}
-use Rattle.processing_marks.proofs.Done.{once-marked}
 use Rattle.processing_marks.proofs.Steps.{narrow-marks, widen-marks}
 use borrow.Author.Needs.{needs}
 use Rattle.processing_marks.proofs.word.mark_convert.Statement.{statement}
@@ -21,9 +18,9 @@ mark-convert-spec =
     (λ c κs. search needs)
     (λ c κs. search needs)
     (λ c κs. search needs)
-    (λ c fpscr. let a = c .before .before .before .before .before .before .args in rw (c .before .before .before .before .before .if1 .taken) (once-marked fpscr (a .marks) _ (convertTree binary64 (a .op)) (narrowStep (regD binary32 (a .op)) (regM binary64 (a .op))) (λ thumb. refl) (λ w. c .mark-single .ensures w ∙ rw (c .before .before .before .double-known .ensures w, c .before .before .is-known .ensures w, place-control, c .before .single-d .ensures .0, c .before .before .before .before .double-m .ensures .0) (sym (narrow-marks (mapIn (a .marks) w) (regD binary32 (a .op)) (regM binary64 (a .op)))))))
+    (λ c w. let a = c .before .before .before .before .before .before .args in rw (c .before .before .before .before .before .if1 .taken) (c .mark-single .ensures w ∙ rw (c .before .before .before .double-known .ensures w, c .before .before .is-known .ensures w, place-control, c .before .single-d .ensures .0, c .before .before .before .before .double-m .ensures .0) (sym (narrow-marks (mapIn (a .marks) w) (regD binary32 (a .op)) (regM binary64 (a .op))))))
     (λ c κs. search needs)
     (λ c κs. search needs)
     (λ c κs. search needs)
     (λ c κs. search needs)
-    (λ c fpscr. let a = c .before .before .before .before .before .args in rw (c .before .before .before .before .if1 .left) (once-marked fpscr (a .marks) _ (convertTree binary32 (a .op)) (widenStep (regD binary64 (a .op)) (regM binary32 (a .op))) (λ thumb. refl) (λ w. c .mark-double .ensures w ∙ rw (c .before .before .single-known .ensures w, c .before .double-d .ensures .0, c .before .before .before .single-m .ensures .0) (sym (widen-marks (mapIn (a .marks) w) (regD binary64 (a .op)) (regM binary32 (a .op))))))))
+    (λ c w. let a = c .before .before .before .before .before .args in rw (c .before .before .before .before .if1 .left) (c .mark-double .ensures w ∙ rw (c .before .before .single-known .ensures w, c .before .double-d .ensures .0, c .before .before .before .single-m .ensures .0) (sym (widen-marks (mapIn (a .marks) w) (regD binary64 (a .op)) (regM binary32 (a .op)))))))

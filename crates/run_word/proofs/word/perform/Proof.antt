@@ -9,7 +9,7 @@ use Rattle.run_word.proofs.word.perform.Lts as lts
 use Rattle.bits.proofs.field.bit.Reads as bit-reads
 use Rattle.bits.proofs.field.bits.Reads as bits-reads
 use Rattle.memory.proofs.coprocessor_load_store.Reads as coprocessor-load-store-reads
-use Rattle.processing.proofs.data_processing.Reads as data-processing-reads
+use Rattle.processing.proofs.process.Reads as process-reads
 use Rattle.run_word.proofs.word.transfer.Reads as transfer-reads
 use Rattle.vfp.proofs.current_pc.Reads as current-pc-reads
 use Rattle.run_word.proofs.word.perform.Statement.{statement}
@@ -36,8 +36,8 @@ transfer-requires c κs = search needs
 returns-2 : tie.Need-returns-2
 returns-2 c = rw (class-transfer (c .before .before .before .before .before .before .before .before .args .base) (c .before .before .before .before .before .before .before .before .args .op) (c .before .before .before .before .before .before .bits .result) (c .before .before .before .before .before .before .bits .ensures) (c .before .before .before .before .before .if1 .left) (c .before .before .before .before .bit .result) (c .before .before .before .before .bit .ensures) (c .before .before .before .if2 .taken)) (c .transfer .ensures (now (c .before .before .before .before .before .before .before .before .args .window)))
 
-data-processing-requires : tie.Need-data-processing-requires
-data-processing-requires c κs = search needs
+process-requires : tie.Need-process-requires
+process-requires c κs = search needs
 
 enum-known-done : tie.Need-enum-known-done
 enum-known-done c = search needs
@@ -52,10 +52,10 @@ current-pc-requires : tie.Need-current-pc-requires
 current-pc-requires c κs = search needs
 
 returns-3 : tie.Need-returns-3
-returns-3 c = rw (class-data (c .before .before .before .before .before .before .before .before .before .before .before .args .base) (c .before .before .before .before .before .before .before .before .before .before .before .args .op) (c .before .before .before .before .before .before .before .before .before .bits .result) (c .before .before .before .before .before .before .before .before .before .bits .ensures) (c .before .before .before .before .before .before .before .before .if1 .left) (c .before .before .before .before .before .before .before .bit .result) (c .before .before .before .before .before .before .before .bit .ensures) (c .before .before .before .before .before .before .if2 .left)) (data-done (c .before .before .before .before .before .before .before .before .before .before .before .args .op) (now (c .before .before .before .before .before .before .before .before .before .before .before .args .s)) (now (c .before .before .before .before .before .before .before .before .before .before .before .args .r)) (c .before .before .before .before .before .before .before .before .before .before .before .args .x) (c .before .before .before .before .data-processing .last .0) (c .before .before .before .before .data-processing .result) (c .before .before .before .before .data-processing .ensures) (now (c .before .before .before .before .before .before .before .before .before .before .before .args .window)) _ (c .before .before .done .given .1))
+returns-3 c = rw (class-data (c .before .before .before .before .before .before .before .before .before .before .before .args .base) (c .before .before .before .before .before .before .before .before .before .before .before .args .op) (c .before .before .before .before .before .before .before .before .before .bits .result) (c .before .before .before .before .before .before .before .before .before .bits .ensures) (c .before .before .before .before .before .before .before .before .if1 .left) (c .before .before .before .before .before .before .before .bit .result) (c .before .before .before .before .before .before .before .bit .ensures) (c .before .before .before .before .before .before .if2 .left)) (data-done (c .before .before .before .before .before .before .before .before .before .before .before .args .op) (now (c .before .before .before .before .before .before .before .before .before .before .before .args .s)) (now (c .before .before .before .before .before .before .before .before .before .before .before .args .r)) (c .before .before .before .before .before .before .before .before .before .before .before .args .x) (c .before .before .before .before .process .last .1 .0) (c .before .before .before .before .process .result) (c .before .before .before .before .process .ensures) (now (c .before .before .before .before .before .before .before .before .before .before .before .args .window)) _ (c .before .before .done .given .1))
 
 returns-4 : tie.Need-returns-4
-returns-4 c = rw (class-data (c .before .before .before .before .before .before .before .before .before .before .before .args .base) (c .before .before .before .before .before .before .before .before .before .before .before .args .op) (c .before .before .before .before .before .before .before .before .before .bits .result) (c .before .before .before .before .before .before .before .before .before .bits .ensures) (c .before .before .before .before .before .before .before .before .if1 .left) (c .before .before .before .before .before .before .before .bit .result) (c .before .before .before .before .before .before .before .bit .ensures) (c .before .before .before .before .before .before .if2 .left)) (data-undefined (c .before .before .before .before .before .before .before .before .before .before .before .args .op) (now (c .before .before .before .before .before .before .before .before .before .before .before .args .s)) (now (c .before .before .before .before .before .before .before .before .before .before .before .args .r)) (c .before .before .before .before .before .before .before .before .before .before .before .args .x) (c .before .before .before .before .data-processing .last .0) (c .before .before .before .before .data-processing .result) (c .before .before .before .before .data-processing .ensures) (now (c .before .before .before .before .before .before .before .before .before .before .before .args .window)) _ (c .before .before .enum-told .given .1) (c .current-pc .ensures))
+returns-4 c = rw (class-data (c .before .before .before .before .before .before .before .before .before .before .before .args .base) (c .before .before .before .before .before .before .before .before .before .before .before .args .op) (c .before .before .before .before .before .before .before .before .before .bits .result) (c .before .before .before .before .before .before .before .before .before .bits .ensures) (c .before .before .before .before .before .before .before .before .if1 .left) (c .before .before .before .before .before .before .before .bit .result) (c .before .before .before .before .before .before .before .bit .ensures) (c .before .before .before .before .before .before .if2 .left)) (data-undefined (c .before .before .before .before .before .before .before .before .before .before .before .args .op) (now (c .before .before .before .before .before .before .before .before .before .before .before .args .s)) (now (c .before .before .before .before .before .before .before .before .before .before .before .args .r)) (c .before .before .before .before .before .before .before .before .before .before .before .args .x) (c .before .before .before .before .process .last .1 .0) (c .before .before .before .before .process .result) (c .before .before .before .before .process .ensures) (now (c .before .before .before .before .before .before .before .before .before .before .before .args .window)) _ (c .before .before .enum-told .given .1) (c .current-pc .ensures))
 
 pub perform-spec : {M : Type 1} → statement M
 perform-spec =
@@ -68,7 +68,7 @@ perform-spec =
     bit-requires
     transfer-requires
     returns-2
-    data-processing-requires
+    process-requires
     enum-known-done
     enum-told
     element-copy-out-current-pc

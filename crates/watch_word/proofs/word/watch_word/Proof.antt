@@ -14,6 +14,7 @@ use Rattle.run_word.specs.Word.{classTree}
 use Rattle.run_word.proofs.Words.{meaning-foreign, meaning-word, condition-field}
 use Rattle.watch_word.proofs.Worded.{stopping, always, flags-unknown, holding, failing}
 use Rattle.place_marks.proofs.Places.{place-nzcv}
+use Rattle.place_marks.proofs.Places.{place-nzcv}
 use borrow.Author.Needs.{needs}
 use Rattle.watch_word.proofs.word.watch_word.Statement.{statement}
 use Rattle.watch_word.proofs.word.watch_word.Tie as tie

@@ -1,0 +1,2 @@
+-- Loads, stores and pairs as an assembler writes them.
+pub mod LoadStore

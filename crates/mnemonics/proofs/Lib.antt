@@ -1,0 +1,3 @@
+-- Laws of texts in a precision.
+
+pub mod Precision

@@ -1,0 +1,3 @@
+-- The parts of an instruction's text, in bytes of ASCII.
+pub mod Ascii
+pub mod Parts

@@ -1,0 +1,2 @@
+-- Data-processing words as an assembler writes them.
+pub mod Data

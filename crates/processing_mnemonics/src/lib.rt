@@ -1,0 +1,2 @@
+// A data-processing word as an assembler writes it.
+pub mod data;

@@ -1,0 +1,2 @@
+-- Register transfers as an assembler writes them.
+pub mod Transfer

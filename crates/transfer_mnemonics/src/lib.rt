@@ -1,0 +1,2 @@
+// A register transfer as an assembler writes it.
+pub mod transfer;
