@@ -18,7 +18,8 @@ use numbers::arithmetic::arithmetic32;
 use numbers::arithmetic::arithmetic64;
 use short_vectors::vector::Vector;
 
-fn arithmetic_single(
+// One step.
+pub fn arithmetic_single(
     s: &mut [u32; 32],
     control: u32,
     kind: Arithmetic,
@@ -35,7 +36,7 @@ fn arithmetic_single(
     set_single(s, d, x);
 }
 
-fn arithmetic_double(
+pub fn arithmetic_double(
     s: &mut [u32; 32],
     control: u32,
     kind: Arithmetic,

@@ -1,4 +1,4 @@
 -- Laws of the crate's proofs, over the precision.
 
 pub mod Done
-mod Arms
+pub mod Arms

@@ -1,3 +1,5 @@
 -- Laws of the crate's proofs.
 
 pub mod Words
+pub mod Classes
+mod Scalars

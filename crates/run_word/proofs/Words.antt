@@ -103,7 +103,7 @@ pub meaning-word : (base w : ℕ) (b : Bool) → b ≡ foreignWord w → b ≡ f
 unfolding meaning
 meaning-word base w b p e = rw (← p, e)
 
-always : (k : ℕ) (p : _) → k ≡ 14 → holds k p ≡ true
+pub always : (k : ℕ) (p : _) → k ≡ 14 → holds k p ≡ true
 unfolding holds
 always k p e = rw e
 

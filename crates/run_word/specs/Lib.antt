@@ -1,3 +1,4 @@
 -- What one word of a run promises.
 pub mod Word
 pub mod Stop
+pub mod Class

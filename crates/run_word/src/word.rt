@@ -9,21 +9,20 @@ ghost use Rattle.machine.specs.Place.{state};
 ghost use Rattle.meaning.specs.Tree.{out, plain};
 ghost use Rattle.decoding.specs.Table.{operationTable};
 ghost use Rattle.transfers.specs.Transfer.{transferTree};
-ghost use Rattle.run_word.specs.Word.{foreignWord, classTree, meaning};
+ghost use Rattle.run_word.specs.Word.{foreignWord, meaning};
 ghost use Rattle.run_word.specs.Stop.{nextOf};
 use super::Next;
 use super::Stop;
-use bits::field::bit;
+use super::class::Class;
+use super::class::class_of;
+use super::data::process_data;
 use bits::field::bits;
-use bits::psr::check_condition;
 use machine::Controls;
 use machine::address::plus;
-use processing::Processed;
 use transfers::Transfer;
 use transfers::single::single_core;
 use transfers::system::system;
 use transfers::transfer_of;
-use vfp::current_pc;
 
 // What is no array after a word, and what follows it.
 pub struct Executed {
@@ -44,19 +43,26 @@ pub fn execute(
     requires { ⌜ now table ≡ operationTable ⌝ }
     ensures { λ e. ⌜ out (state (assembled (now (s .exit)) (now (r .exit)) (e .controls) false) (now (window .exit))) (nextOf (e .next)) ≡ plain (meaning base op) (state (assembled (now (s .entry)) (now (r .entry)) x false) (now (window .entry))) ⌝ }
 {
-    if foreign(op) {
-        return Executed {
+    let flags = x.cpsr;
+    let class = class_of(op, flags);
+    match class {
+        Class::Data => process_data(table, s, r, x, op),
+        Class::Access => {
+            memory::coprocessor_load_store(s, r, window, base, op);
+            Executed {
+                controls: x,
+                next: Next::On,
+            }
+        }
+        Class::Transfer => transfer(s, r, x, op),
+        Class::Skipped => Executed {
+            controls: x,
+            next: Next::On, // skipped, and counted
+        },
+        Class::Foreign => Executed {
             controls: x,
             next: Next::Halt(Stop::Foreign),
-        };
-    }
-    let flags = x.cpsr;
-    if check_condition(bits(op, 28, 31), flags) {
-        return perform(table, s, r, x, window, base, op);
-    }
-    Executed {
-        controls: x,
-        next: Next::On, // skipped, and counted
+        },
     }
 }
 
@@ -66,52 +72,6 @@ pub fn foreign(op: u32) -> bool
 {
     let class = bits(op, 24, 27);
     (op >= 0xF000_0000) | (bits(op, 9, 11) != 0b101) | (class < 12) | (class > 14)
-}
-
-// A word whose condition holds, by its class.
-pub fn perform(
-    table: &[u8; 1024],
-    s: &mut [u32; 32],
-    r: &mut [u32; 16],
-    x: Controls,
-    window: &mut [u32],
-    base: u32,
-    op: u32,
-) -> Executed
-    requires { ⌜ now table ≡ operationTable ⌝ }
-    ensures { λ e. ⌜ out (state (assembled (now (s .exit)) (now (r .exit)) (e .controls) false) (now (window .exit))) (nextOf (e .next)) ≡ plain (classTree base op) (state (assembled (now (s .entry)) (now (r .entry)) x false) (now (window .entry))) ⌝ }
-{
-    if bits(op, 25, 27) == 0b110 {
-        memory::coprocessor_load_store(s, r, window, base, op);
-        return Executed {
-            controls: x,
-            next: Next::On,
-        };
-    }
-    if bit(op, 4) {
-        return transfer(s, r, x, op);
-    }
-    let done = processing::process(table, s, x.fpscr, op);
-    match done {
-        Processed::Done(fpscr) => {
-            let cpsr = x.cpsr;
-            Executed {
-                controls: Controls {
-                    fpscr,
-                    fpexc: x.fpexc,
-                    cpsr,
-                },
-                next: Next::On,
-            }
-        }
-        Processed::Undefined => {
-            let pc = current_pc(r[15], false);
-            Executed {
-                controls: x,
-                next: Next::Halt(Stop::Undefined { pc, opcode: op }),
-            }
-        }
-    }
 }
 
 // A register transfer, as `transfers::coprocessor_register` does it. The two kinds are called directly: a call that takes and returns what is no

@@ -184,6 +184,21 @@ module _ {S Y : Type 0} {R : Repeats S Y} {f : Format} {c : ℕ} {y : ℕ → �
       pub finally : v .iterations ≤ i + 1 → R .all (iterationsOf f c d) (iteration f c y d n m) s₀ s′
       finally h = let last : iterationsOf f c d ≡ i + 1 = omega (arith, here .made .iterations, here .more) in rw last did-one
 
+-- where LEN is 0 a word makes one iteration
+pub iterations-one : (f : Format) (c d : ℕ) → c / 2 ^ 16 % 8 ≡ 0 → iterationsOf f c d ≡ 1
+iterations-one f c d scalar = by (ltb d (bankOf f))
+  where
+    by : (b : Bool) → cond b 1 (c / 2 ^ 16 % 8 + 1) ≡ 1
+    by true = refl
+    by false = rw scalar
+
+-- and that is a step of the registers that it names
+pub once-only : {S Y : Type 0} (R : Repeats S Y) (f : Format) (c : ℕ) (y : ℕ → ℕ → ℕ → Y) (d n m : ℕ) {s s′ : S}
+    → c / 2 ^ 16 % 8 ≡ 0 → R .one (y d n m) s s′ → R .all (iterationsOf f c d) (iteration f c y d n m) s s′
+once-only {Y = Y} R f c y d n m {s} {s′} scalar does =
+    let at : y d n m ≡ iteration f c y d n m 0 = rw (← step-none f (strideOf c) d, ← step-none f (strideOf c) n, ← second-none f (strideOf c) m) in
+    rw (iterations-one f c d scalar) (R .next 0 _ s s s′ (R .none _ s) (subst (λ (z : Y). R .one z s s′) at does))
+
 -- steps on lent singles
 abbrev pub onSingles : Repeats (List ℕ) Step
 onSingles =

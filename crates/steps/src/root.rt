@@ -14,14 +14,14 @@ use roots::root::square_root32;
 use roots::root::square_root64;
 use short_vectors::vector::Vector;
 
-fn root_single(s: &mut [u32; 32], d: Single, m: Single)
+pub fn root_single(s: &mut [u32; 32], d: Single, m: Single)
     ensures { λ _. ⌜ ((control : ℕ) → Stepped (rootStep binary32 control (d .0) (m .0)) (now (s .entry)) (now (s .exit))) ⌝ }
 {
     let x = square_root32(get_single(s, m));
     set_single(s, d, x);
 }
 
-fn root_double(s: &mut [u32; 32], d: Double, m: Double)
+pub fn root_double(s: &mut [u32; 32], d: Double, m: Double)
     ensures { λ _. ⌜ ((control : ℕ) → Stepped (rootStep binary64 control (d .0) (m .0)) (now (s .entry)) (now (s .exit))) ⌝ }
 {
     let x = square_root64(get_double(s, m));

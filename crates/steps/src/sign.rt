@@ -32,7 +32,7 @@ fn change(sign: SignOperation, word: u32) -> u32
     }
 }
 
-fn sign_single(s: &mut [u32; 32], sign: SignOperation, d: Single, m: Single)
+pub fn sign_single(s: &mut [u32; 32], sign: SignOperation, d: Single, m: Single)
     ensures { λ _. ⌜ Stepped (signStep binary32 sign (d .0) (m .0)) (now (s .entry)) (now (s .exit)) ⌝ }
 {
     let word = get_single(s, m);
@@ -40,7 +40,7 @@ fn sign_single(s: &mut [u32; 32], sign: SignOperation, d: Single, m: Single)
 }
 
 // The sign is in the high word.
-fn sign_double(s: &mut [u32; 32], sign: SignOperation, d: Double, m: Double)
+pub fn sign_double(s: &mut [u32; 32], sign: SignOperation, d: Double, m: Double)
     ensures { λ _. ⌜ Stepped (signStep binary64 sign (d .0) (m .0)) (now (s .entry)) (now (s .exit)) ⌝ }
 {
     let words = get_words(s, m);

@@ -1,52 +1,77 @@
 -- `run_word::word::execute` meets its contract.
-use Prim.Native.Nat.{ℕ}
-use mathlib.Core.Bool.{false}
-use mathlib.Core.Path.{sym, _∙_, ap}
-use denote.Ref.{now}
 use borrow.Author.Needs.{needs}
-use Rattle.run_word.specs.Word.{classTree}
-use Rattle.bits.specs.Psr.{holds}
-use Rattle.bits.specs.Field.{field}
-use Rattle.meaning.proofs.Laws.{plain-stop}
-use Rattle.run_word.proofs.Words.{meaning-foreign, meaning-word, condition-holds, condition-fails, condition-field}
-use Rattle.machine.specs.Place.{state}
+use denote.Ref.{now}
+use mathlib.Core.Bool.{false}
+use mathlib.Core.Path.{sym, _∙_}
+use native.Mathlib.Omega.{arith}
 use Rattle.machine.specs.Machine.{assembled}
+use Rattle.machine.specs.Place.{state}
+use Rattle.meaning.proofs.Laws.{plain-stop, plain-nothing}
+use Rattle.run_word.proofs.Classes.{by-class, data-word}
 use Rattle.run_word.proofs.word.execute.Statement.{statement}
 use Rattle.run_word.proofs.word.execute.Tie as tie
 
-foreign-requires : tie.Need-foreign-requires
-foreign-requires c κs = search needs
+class-of-requires : tie.Need-class-of-requires
+class-of-requires c κs = search needs
+
+enum-told : tie.Need-enum-told
+enum-told c = search needs
+
+process-data-requires : tie.Need-process-data-requires
+process-data-requires c κs = let a = c .before .before .before .before .before .before .before .args in (c .before .before .before .before .before .before .before .pre, data-word (a .op) (a .x .cpsr) (omega arith) (sym (c .before .before .enum-told .given .1) ∙ c .before .before .before .before .class-of .ensures))
+
+enum-told-2 : tie.Need-enum-told-2
+enum-told-2 c = search needs
+
+coprocessor-load-store-requires : tie.Need-coprocessor-load-store-requires
+coprocessor-load-store-requires c κs = search needs
+
+enum-told-3 : tie.Need-enum-told-3
+enum-told-3 c = search needs
+
+transfer-requires : tie.Need-transfer-requires
+transfer-requires c κs = search needs
+
+enum-told-4 : tie.Need-enum-told-4
+enum-told-4 c = search needs
+
+enum-told-5 : tie.Need-enum-told-5
+enum-told-5 c = search needs
 
 returns : tie.Need-returns
-returns c = rw (meaning-foreign (c .before .before .before .args .base) (c .before .before .before .args .op) (c .before .foreign .result) (c .before .foreign .ensures) (c .if1 .taken)) (plain-stop _ (state (assembled (now (c .before .before .before .args .s)) (now (c .before .before .before .args .r)) (c .before .before .before .args .x) false) (now (c .before .before .before .args .window))))
-
-bits-requires : tie.Need-bits-requires
-bits-requires c κs = search needs
-
-check-condition-requires : tie.Need-check-condition-requires
-check-condition-requires c κs = search needs
-
-perform-requires : tie.Need-perform-requires
-perform-requires c κs = search needs
+returns c = let a = c .before .before .before .before .before .before .before .before .args in by-class (a .base) (a .op) (state (assembled (now (a .s)) (now (a .r)) (a .x) false) (now (a .window))) _ _ (sym (c .before .before .before .enum-told .given .1) ∙ c .before .before .before .before .before .class-of .ensures) (c .process-data .ensures (now (a .window)))
 
 same-length : tie.Need-same-length
 same-length c = search needs
 
 returns-2 : tie.Need-returns-2
-returns-2 c = rw (meaning-word (c .before .before .before .before .before .before .before .before .before .before .before .before .before .args .base) (c .before .before .before .before .before .before .before .before .before .before .before .before .before .args .op) (c .before .before .before .before .before .before .before .before .before .before .before .foreign .result) (c .before .before .before .before .before .before .before .before .before .before .before .foreign .ensures) (c .before .before .before .before .before .before .before .before .before .before .if1 .left)) (condition-holds (field (c .before .before .before .before .before .before .before .before .before .before .before .before .before .args .op) 28 31) (classTree (c .before .before .before .before .before .before .before .before .before .before .before .before .before .args .base) (c .before .before .before .before .before .before .before .before .before .before .before .before .before .args .op)) (state (assembled (now (c .before .before .before .before .before .before .before .before .before .before .before .before .before .args .s)) (now (c .before .before .before .before .before .before .before .before .before .before .before .before .before .args .r)) (c .before .before .before .before .before .before .before .before .before .before .before .before .before .args .x) false) (now (c .before .before .before .before .before .before .before .before .before .before .before .before .before .args .window))) _ (sym (c .before .before .before .before .before .before .before .check-condition .ensures ∙ ap (λ (k : ℕ). holds k (c .before .before .before .before .before .before .before .before .before .before .before .before .before .args .x .cpsr)) (condition-field (c .before .before .before .before .before .before .before .before .before .before .before .before .before .args .op) _ (c .before .before .before .before .before .before .before .before .bits .ensures))) ∙ c .before .before .before .before .before .before .if2 .taken) (c .before .before .perform .ensures))
+returns-2 c = let a = c .before .before .before .before .before .before .before .before .before .before .before .args in by-class (a .base) (a .op) (state (assembled (now (a .s)) (now (a .r)) (a .x) false) (now (a .window))) _ _ (sym (c .before .before .before .before .before .before .enum-told2 .given .1) ∙ c .before .before .before .before .before .before .before .before .class-of .ensures) (c .before .before .coprocessor-load-store .ensures (assembled (now (a .s)) (now (a .r)) (a .x) false))
 
 returns-3 : tie.Need-returns-3
-returns-3 c = rw (meaning-word (c .before .before .before .before .before .before .before .args .base) (c .before .before .before .before .before .before .before .args .op) (c .before .before .before .before .before .foreign .result) (c .before .before .before .before .before .foreign .ensures) (c .before .before .before .before .if1 .left)) (condition-fails (field (c .before .before .before .before .before .before .before .args .op) 28 31) (classTree (c .before .before .before .before .before .before .before .args .base) (c .before .before .before .before .before .before .before .args .op)) (state (assembled (now (c .before .before .before .before .before .before .before .args .s)) (now (c .before .before .before .before .before .before .before .args .r)) (c .before .before .before .before .before .before .before .args .x) false) (now (c .before .before .before .before .before .before .before .args .window))) (sym (c .before .check-condition .ensures ∙ ap (λ (k : ℕ). holds k (c .before .before .before .before .before .before .before .args .x .cpsr)) (condition-field (c .before .before .before .before .before .before .before .args .op) _ (c .before .before .bits .ensures))) ∙ c .if2 .left))
+returns-3 c = let a = c .before .before .before .before .before .before .before .before .args in by-class (a .base) (a .op) (state (assembled (now (a .s)) (now (a .r)) (a .x) false) (now (a .window))) _ _ (sym (c .before .before .before .enum-told3 .given .1) ∙ c .before .before .before .before .before .class-of .ensures) (c .transfer .ensures (now (a .window)))
+
+returns-4 : tie.Need-returns-4
+returns-4 c = let a = c .before .before .before .before .before .args in by-class (a .base) (a .op) (state (assembled (now (a .s)) (now (a .r)) (a .x) false) (now (a .window))) _ _ (sym (c .enum-told4 .given .1) ∙ c .before .before .class-of .ensures) (plain-nothing (state (assembled (now (a .s)) (now (a .r)) (a .x) false) (now (a .window))))
+
+returns-5 : tie.Need-returns-5
+returns-5 c = let a = c .before .before .before .before .before .args in by-class (a .base) (a .op) (state (assembled (now (a .s)) (now (a .r)) (a .x) false) (now (a .window))) _ _ (sym (c .enum-told5 .given .1) ∙ c .before .before .class-of .ensures) (plain-stop _ (state (assembled (now (a .s)) (now (a .r)) (a .x) false) (now (a .window))))
 
 pub execute-spec : {M : Type 1} → statement M
 execute-spec =
     tie.close
     (tie.spec
-    foreign-requires
+    class-of-requires
+    enum-told
+    process-data-requires
+    enum-told-2
+    coprocessor-load-store-requires
+    enum-told-3
+    transfer-requires
+    enum-told-4
+    enum-told-5
     returns
-    bits-requires
-    check-condition-requires
-    perform-requires
     same-length
     returns-2
-    returns-3)
+    returns-3
+    returns-4
+    returns-5)

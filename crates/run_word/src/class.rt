@@ -1,0 +1,45 @@
+// The class of a word.
+ghost use mathlib.Core.Path.{_≡_};
+ghost use Rattle.run_word.specs.Class.{classOf};
+use super::word::foreign;
+use bits::field::bit;
+use bits::field::bits;
+use bits::psr::Psr;
+use bits::psr::check_condition;
+
+// What a run does with a word under the flags as they are. A skipped word is counted.
+pub enum Class {
+    Data,
+    Access,
+    Transfer,
+    Skipped,
+    Foreign,
+}
+
+// Words of condition 1110, which are most, are told by one mask: bits 31:24 and 11:9, or 31:25 and 11:9.
+pub fn class_of(op: u32, flags: Psr) -> Class
+    ensures { λ c. ⌜ c ≡ classOf op flags ⌝ }
+{
+    if op & 0xFF00_0E00 == 0xEE00_0A00 {
+        if bit(op, 4) {
+            return Class::Transfer;
+        }
+        return Class::Data;
+    }
+    if op & 0xFE00_0E00 == 0xEC00_0A00 {
+        return Class::Access;
+    }
+    if foreign(op) {
+        return Class::Foreign;
+    }
+    if !check_condition(bits(op, 28, 31), flags) {
+        return Class::Skipped;
+    }
+    if bits(op, 25, 27) == 0b110 {
+        return Class::Access;
+    }
+    if bit(op, 4) {
+        return Class::Transfer;
+    }
+    Class::Data
+}

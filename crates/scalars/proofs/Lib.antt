@@ -1,0 +1,3 @@
+-- Laws of scalars, over the precision.
+
+pub mod Scalar

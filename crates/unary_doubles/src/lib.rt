@@ -1,0 +1,77 @@
+// The unary words, compares and conversions of coprocessor 11, where LEN is 0.
+ghost use mathlib.Core.Path.{_≡_};
+ghost use Prim.Native.Nat.{_/_, _%_, _^_, _<_};
+ghost use lib.Ieee.{binary64};
+ghost use Rattle.decoding.specs.Operation.{numberOf};
+ghost use Rattle.processing.specs.Data.{Handled, namedTree};
+ghost use Rattle.processing.specs.declared.Processed.the-variants.{Done};
+use conversions::integer::from_integer_double;
+use conversions::integer::round_double;
+use conversions::integer::truncate_double;
+use conversions::width::narrow_double;
+use decoding::fields::double_d;
+use decoding::fields::double_m;
+use decoding::fields::single_d;
+use decoding::fields::single_m;
+use decoding::operation::Operation;
+use steps::compare::compare_double;
+use steps::compare::compare_double_zero;
+use steps::root::root_double;
+use steps::sign::SignOperation;
+use steps::sign::sign_double;
+
+// FPSCR after a unary operation, a compare or a conversion.
+pub fn unary_double(s: &mut [u32; 32], fpscr: u32, op: u32, o: Operation) -> u32
+    requires { ⌜ (9 < numberOf o) × (fpscr / 2 ^ 16 % 8 ≡ 0) ⌝ }
+    ensures { λ r. ⌜ Handled (namedTree binary64 op o) op (now (s .entry)) fpscr (now (s .exit)) (Done r) ⌝ }
+{
+    match o {
+        Operation::Fcpy => {
+            sign_double(s, SignOperation::Copy, double_d(op), double_m(op));
+            fpscr
+        }
+        Operation::Fabs => {
+            sign_double(s, SignOperation::Absolute, double_d(op), double_m(op));
+            fpscr
+        }
+        Operation::Fneg => {
+            sign_double(s, SignOperation::Negate, double_d(op), double_m(op));
+            fpscr
+        }
+        Operation::Fsqrt => {
+            root_double(s, double_d(op), double_m(op));
+            fpscr
+        }
+        Operation::Fcmp | Operation::Fcmpe => compare_double(s, fpscr, double_d(op), double_m(op)),
+        Operation::Fcmpz | Operation::Fcmpez => compare_double_zero(s, fpscr, double_d(op)),
+        Operation::Fcvt => {
+            narrow_double(s, fpscr, single_d(op), double_m(op));
+            fpscr
+        }
+        Operation::Fuito => {
+            from_integer_double(s, false, double_d(op), single_m(op));
+            fpscr
+        }
+        Operation::Fsito => {
+            from_integer_double(s, true, double_d(op), single_m(op));
+            fpscr
+        }
+        Operation::Ftoui => {
+            round_double(s, fpscr, false, single_d(op), double_m(op));
+            fpscr
+        }
+        Operation::Ftouiz => {
+            truncate_double(s, false, single_d(op), double_m(op));
+            fpscr
+        }
+        Operation::Ftosi => {
+            round_double(s, fpscr, true, single_d(op), double_m(op));
+            fpscr
+        }
+        Operation::Ftosiz => {
+            truncate_double(s, true, single_d(op), double_m(op));
+            fpscr
+        }
+        _ => fpscr, // no unary word
+    }
+}

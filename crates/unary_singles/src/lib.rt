@@ -1,0 +1,76 @@
+// The unary words, compares and conversions of coprocessor 10, where LEN is 0.
+ghost use mathlib.Core.Path.{_≡_};
+ghost use Prim.Native.Nat.{_/_, _%_, _^_, _<_};
+ghost use lib.Ieee.{binary32};
+ghost use Rattle.decoding.specs.Operation.{numberOf};
+ghost use Rattle.processing.specs.Data.{Handled, namedTree};
+ghost use Rattle.processing.specs.declared.Processed.the-variants.{Done};
+use conversions::integer::from_integer_single;
+use conversions::integer::round_single;
+use conversions::integer::truncate_single;
+use conversions::width::widen_single;
+use decoding::fields::double_d;
+use decoding::fields::single_d;
+use decoding::fields::single_m;
+use decoding::operation::Operation;
+use steps::compare::compare_single;
+use steps::compare::compare_single_zero;
+use steps::root::root_single;
+use steps::sign::SignOperation;
+use steps::sign::sign_single;
+
+// FPSCR after a unary operation, a compare or a conversion.
+pub fn unary_single(s: &mut [u32; 32], fpscr: u32, op: u32, o: Operation) -> u32
+    requires { ⌜ (9 < numberOf o) × (fpscr / 2 ^ 16 % 8 ≡ 0) ⌝ }
+    ensures { λ r. ⌜ Handled (namedTree binary32 op o) op (now (s .entry)) fpscr (now (s .exit)) (Done r) ⌝ }
+{
+    match o {
+        Operation::Fcpy => {
+            sign_single(s, SignOperation::Copy, single_d(op), single_m(op));
+            fpscr
+        }
+        Operation::Fabs => {
+            sign_single(s, SignOperation::Absolute, single_d(op), single_m(op));
+            fpscr
+        }
+        Operation::Fneg => {
+            sign_single(s, SignOperation::Negate, single_d(op), single_m(op));
+            fpscr
+        }
+        Operation::Fsqrt => {
+            root_single(s, single_d(op), single_m(op));
+            fpscr
+        }
+        Operation::Fcmp | Operation::Fcmpe => compare_single(s, fpscr, single_d(op), single_m(op)),
+        Operation::Fcmpz | Operation::Fcmpez => compare_single_zero(s, fpscr, single_d(op)),
+        Operation::Fcvt => {
+            widen_single(s, double_d(op), single_m(op));
+            fpscr
+        }
+        Operation::Fuito => {
+            from_integer_single(s, false, single_d(op), single_m(op));
+            fpscr
+        }
+        Operation::Fsito => {
+            from_integer_single(s, true, single_d(op), single_m(op));
+            fpscr
+        }
+        Operation::Ftoui => {
+            round_single(s, fpscr, false, single_d(op), single_m(op));
+            fpscr
+        }
+        Operation::Ftouiz => {
+            truncate_single(s, false, single_d(op), single_m(op));
+            fpscr
+        }
+        Operation::Ftosi => {
+            round_single(s, fpscr, true, single_d(op), single_m(op));
+            fpscr
+        }
+        Operation::Ftosiz => {
+            truncate_single(s, true, single_d(op), single_m(op));
+            fpscr
+        }
+        _ => fpscr, // no unary word
+    }
+}
