@@ -69,7 +69,7 @@ uint32_t fpu_new(uint32_t *state, size_t state_words);
 /* Arithmetic, moves, compares, conversions (CDP). Gives FPU_FINISHED or FPU_UNDEFINED. */
 uint32_t fpu_data_processing(uint32_t *state, size_t state_words, uint32_t thumb, uint32_t word, uint32_t *answer, size_t answer_words);
 
-/* Transfers with core registers (MCR, MRC). Gives FPU_FINISHED or FPU_BRANCHED. */
+/* Transfers of singles, high halves of doubles and system registers with core registers (MCR, MRC). Gives FPU_FINISHED or FPU_BRANCHED. */
 uint32_t fpu_coprocessor_register(uint32_t *state, size_t state_words, uint32_t thumb, uint32_t word, uint32_t *answer, size_t answer_words);
 
 /* Loads, stores and pairs (LDC, STC) over the words of memory from `base` on: the window. Outside it a read gives 0 and a write is

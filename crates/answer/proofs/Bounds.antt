@@ -94,9 +94,9 @@ near-system : (w : ℕ) → Near (systemTree w)
 unfolding Near
 near-system w = either (bitOf w 20) _ _ (either (eqb (field w 12 15) 15) _ _ refl refl) refl
 
-near-single : (thumb : Bool) (w : ℕ) → Near (singleTree thumb w)
+near-single : (thumb : Bool) (n w : ℕ) → Near (singleTree thumb n w)
 unfolding Near
-near-single thumb w = either (bitOf w 20) _ _ (either (eqb (field w 12 15) 15) _ _ refl refl) refl
+near-single thumb n w = either (bitOf w 20) _ _ (either (eqb (field w 12 15) 15) _ _ refl refl) refl
 
 near-nothing : Near (go nothing)
 unfolding Near
@@ -108,7 +108,7 @@ near-transfer thumb w = by (transferOf w)
   where
     by : (t : Transfer) → Near (transferBy t thumb w)
     by System = near-system w
-    by Single = near-single thumb w
+    by (Single n) = near-single thumb (n .0) w
     by Nothing = near-nothing
 
 near-access : (f : Format) (base w : ℕ) → Near (accessTree f base w)

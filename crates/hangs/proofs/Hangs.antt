@@ -141,5 +141,5 @@ either false x y st μ p q = q
 pub transfer-clear : (t : Transfer) (thumb : Bool) (w : ℕ) (st : State) (μ : Map) → clear ≡ hangOf (transferBy t thumb w) st μ
 unfolding hangOf
 transfer-clear System thumb w st μ = either (bitOf w 20) _ _ st μ (either (eqb (field w 12 15) 15) _ _ st μ refl refl) refl
-transfer-clear Single thumb w st μ = either (bitOf w 20) _ _ st μ (either (eqb (field w 12 15) 15) _ _ st μ refl refl) refl
+transfer-clear (Single n) thumb w st μ = either (bitOf w 20) _ _ st μ (either (eqb (field w 12 15) 15) _ _ st μ refl refl) refl
 transfer-clear Nothing thumb w st μ = refl

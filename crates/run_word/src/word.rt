@@ -85,8 +85,8 @@ fn transfer(s: &mut [u32; 32], r: &mut [u32; 16], x: Controls, op: u32) -> Execu
             controls: system(r, x, op),
             next: Next::On,
         },
-        Transfer::Single => {
-            if single_core(s, r, false, op) {
+        Transfer::Single(sn) => {
+            if single_core(s, r, false, sn, op) {
                 return Executed {
                     controls: x,
                     next: Next::Last,

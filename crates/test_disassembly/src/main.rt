@@ -1,5 +1,5 @@
-// Lists the word of every decode index in both precisions, and pseudo-random words of each class. differential/disassembly compares what is
-// printed with a disassembler.
+// Lists the word of every decode index in both precisions, pseudo-random words of each class, and the transfers of every high half.
+// differential/disassembly compares what is printed with a disassembler.
 ghost use mathlib.Core.Path.{_≡_};
 ghost use Prim.Native.Nat.{_<_};
 ghost use Rattle.decoding.specs.Table.{operationTable};
@@ -62,6 +62,19 @@ fn random(table: &[u8; 1024], seed: u32, top: u32, bit_4: u32)
     }
 }
 
+// The high half of every double, written from the core register of its number and read to it.
+fn high_halves(table: &[u8; 1024])
+    requires { ⌜ now table ≡ operationTable ⌝ }
+{
+    let mut n: u32 = 0;
+    while n < 16 {
+        let op = 0xEE20_0B10 + n * 0x1_1000;
+        show(table, n * 8, op);
+        show(table, n * 8 + 4, op + 0x10_0000);
+        n += 1;
+    }
+}
+
 fn main() {
     let table = operations();
     indices(&table);
@@ -71,4 +84,5 @@ fn main() {
     random(&table, 4, 0b1101, 1);
     random(&table, 5, 0b1110, 0);
     random(&table, 6, 0b1110, 1);
+    high_halves(&table);
 }

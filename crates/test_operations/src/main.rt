@@ -1,5 +1,5 @@
-// Runs words through the three calls and compares each answer with the one that stands beside it in data/cases. It prints the lines that differ,
-// and how many were compared and how many differ.
+// Runs words through the three calls and compares each answer with the one that stands beside it, in data/cases the Rust's and in data/high_halves
+// the manual's. It prints the lines of each file that differ, and how many were compared and how many differ.
 mod cases;
 mod lines;
 
@@ -34,16 +34,23 @@ fn read_all(fd: i32) -> Tally {
     t
 }
 
-fn main() {
-    let fd = os::open_read(b"cases");
+fn compare(name: &[u8]) {
+    let fd = os::open_read(name);
     if fd < 0 {
-        os::fail(b"cases");
+        os::fail(name);
         return;
     }
     let t = read_all(fd);
     libc::close(fd);
+    io::write_all(STDOUT_FILENO, name);
+    io::write_all(STDOUT_FILENO, b": ");
     io::print_decimal(STDOUT_FILENO, t.compared);
     io::write_all(STDOUT_FILENO, b" compared, ");
     io::print_decimal(STDOUT_FILENO, t.differ);
     io::write_all(STDOUT_FILENO, b" differ\n");
+}
+
+fn main() {
+    compare(b"cases");
+    compare(b"high_halves");
 }

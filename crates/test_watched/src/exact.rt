@@ -358,6 +358,21 @@ fn transfers(t: Tally) -> Tally {
     case(c, 0xEE36_3A90, 0, one(0, 0, 0))
 }
 
+// The high half of d6 is s13, whatever bit 7 is, with r3 and r15; under coprocessor 10 nothing moves.
+fn high_halves(t: Tally) -> Tally {
+    let from = one(0, place(13), place(CORE + 3));
+    let to = one(0, place(CORE + 3), place(13));
+    let a = case(t, 0xEE36_3B10, 0, from);
+    let b = case(a, 0xEE36_3B90, 0, from);
+    let c = case(b, 0xEE26_3B10, 0, to);
+    let e = case(c, 0xEE26_3B90, 0, to);
+    let f = case(e, 0xEE36_FB10, 0, one(0, place(13), place(PC)));
+    let g = case(f, 0xEE26_FB10, 0, one(0, place(PC), place(13)));
+    let h = case(g, 0xEE36_3A10, 0, one(0, 0, 0));
+    let i = case(h, 0xEE26_3A10, 0, one(0, 0, 0));
+    case(i, 0xEE26_3A90, 0, one(0, 0, 0))
+}
+
 fn system_reads(t: Tally) -> Tally {
     let a = case(
         t,
@@ -439,6 +454,6 @@ pub fn exactness() -> Tally {
         differ: 0,
     };
     let a = extensions(precise(precise(t, false), true));
-    let b = system_writes(system_reads(transfers(a)));
+    let b = system_writes(system_reads(high_halves(transfers(a))));
     pairs(multiples(accesses(b)))
 }

@@ -1,4 +1,4 @@
-// VMOV between a core register and a single, opc1 = 0: the mark goes with the word, to r15 too.
+// VMOV between a core register and a single, which may be a double's high half: the mark goes with the word, to r15 too.
 ghost use mathlib.Core.Path.{_≡_};
 ghost use mathlib.Core.Bool.{Bool};
 ghost use mathlib.Core.List.{List};
@@ -9,17 +9,16 @@ ghost use Rattle.transfers.specs.Transfer.{singleTree};
 ghost use Rattle.place_marks.specs.Word.{mapIn};
 use bits::field::bit;
 use bits::field::bits;
-use machine::registers::sreg;
+use machine::registers::Single;
 use place_marks::registers::core_known;
 use place_marks::registers::mark_core;
 use place_marks::registers::mark_single;
 use place_marks::registers::single_known;
 
-pub fn mark_single_core(marks: u64, op: u32) -> u64
-    ensures { λ y. ⌜ ((thumb : Bool) (st : State) (w : List ℕ) → mapIn y w ≡ marked (singleTree thumb op) st (mapIn marks w)) ⌝ }
+pub fn mark_single_core(marks: u64, sn: Single, op: u32) -> u64
+    ensures { λ y. ⌜ ((thumb : Bool) (st : State) (w : List ℕ) → mapIn y w ≡ marked (singleTree thumb (sn .0) op) st (mapIn marks w)) ⌝ }
 {
     let rt = bits(op, 12, 15) as usize;
-    let sn = sreg(bits(op, 16, 19), bits(op, 7, 7));
     if bit(op, 20) {
         return mark_core(marks, rt, single_known(marks, sn));
     }

@@ -3,13 +3,13 @@ use Prim.Native.Nat.{ℕ}
 use mathlib.Core.Bool.{cond}
 use mathlib.Core.List.{List, _++_}
 use lib.Dec.{eqb}
-use lib.Ieee.{binary32}
+use lib.Ieee.{Format, binary32, binary64}
 use Rattle.bits.specs.Field.{field, bitOf}
 use Rattle.numerals.specs.Number.{decimalText}
 use Rattle.decoding.specs.Fields.{regN}
 use Rattle.transfers.specs.declared.Transfer.{Transfer}
 use Rattle.transfers.specs.declared.Transfer.the-variants.{System, Single, Nothing}
-use Rattle.transfers.specs.Transfer.{transferOf}
+use Rattle.transfers.specs.Transfer.{highHalf, transferOf}
 use Rattle.mnemonics.specs.Ascii.{ascii}
 use Rattle.mnemonics.specs.Parts.{conditionText, namedText, regText, coreText, comma}
 
@@ -31,17 +31,24 @@ systemText w =
     (namedText w (ascii "FMRX") ++ (coreText t ++ (comma ++ systemName n))))
     (namedText w (ascii "FMXR") ++ (systemName n ++ (comma ++ coreText t)))
 
--- from a single (bit 20) or to it
-unfoldable pub singleText : ℕ → List ℕ
-singleText w =
+-- register n of the unit, read to a core register (bit 20) or written from it, by the name of either
+unfoldable pub movedText : List ℕ → List ℕ → Format → ℕ → ℕ → List ℕ
+movedText read written f n w =
     let t = field w 12 15 in
     cond (bitOf w 20)
-    (namedText w (ascii "FMRS") ++ (coreText t ++ (comma ++ regText binary32 (regN binary32 w))))
-    (namedText w (ascii "FMSR") ++ (regText binary32 (regN binary32 w) ++ (comma ++ coreText t)))
+    (namedText w read ++ (coreText t ++ (comma ++ regText f n)))
+    (namedText w written ++ (regText f n ++ (comma ++ coreText t)))
+
+-- the high half of a double, which bit 7 has no part in, or a single
+unfoldable pub singleText : ℕ → List ℕ
+singleText w =
+    cond (highHalf w)
+    (movedText (ascii "FMRDH") (ascii "FMDHR") binary64 (field w 16 19) w)
+    (movedText (ascii "FMRS") (ascii "FMSR") binary32 (regN binary32 w) w)
 
 unfoldable pub transferTextBy : Transfer → ℕ → List ℕ
 transferTextBy System w = systemText w
-transferTextBy Single w = singleText w
+transferTextBy (Single n) w = singleText w
 transferTextBy Nothing w = ascii "nothing"
 
 unfoldable pub transferText : ℕ → List ℕ

@@ -1,10 +1,11 @@
--- The meaning of a register transfer (vfp.rs `coprocessor_register`). Bits 11:8 are not looked at.
+-- The meaning of a register transfer (vfp.rs `coprocessor_register`; the high halves of doubles are the manual's). Bits 11:8 are looked at for opc1 1
+-- alone.
 use Prim.Native.Nat.{ℕ, _+_, _*_, _/_, _%_, _^_}
-use mathlib.Core.Bool.{Bool, true, false, cond}
+use mathlib.Core.Bool.{Bool, true, false, cond, _&&_}
 use mathlib.Core.List.{[], _∷_}
 use lib.Dec.{eqb}
 use Rattle.bits.specs.Field.{field, bitOf}
-use Rattle.machine.specs.Registers.{sregOf}
+use Rattle.machine.specs.Registers.{sregOf, highIndex}
 use Rattle.machine.specs.Place.{Place, core, flags, control, exc, nzcv, sWord}
 use Rattle.meaning.specs.Step.{Write, Step, fst, snd, copy, constant, once, nothing}
 use Rattle.meaning.specs.Tree.{Tree, Next, on, last, go, branch}
@@ -54,10 +55,9 @@ systemTree w =
     (cond (eqb t 15) (go (once (readFlags reg ∷ []))) (go (once (readSystem reg (core t) ∷ []))))
     (go (once (writeSystem reg (core t))))
 
--- opc1 0: a single and a core register; a single moved to r15 branches
-abbrev pub singleTree : Bool → ℕ → Tree
-singleTree thumb w =
-    let n = sregOf (field w 16 19) (field w 7 7) in
+-- single n and a core register; a single moved to r15 branches
+abbrev pub singleTree : Bool → ℕ → ℕ → Tree
+singleTree thumb n w =
     let t = field w 12 15 in
     cond (bitOf w 20)
     (cond (eqb t 15)
@@ -65,13 +65,23 @@ singleTree thumb w =
     (go (once (copy (core t) (sWord n) ∷ []))))
     (go (once (copy (sWord n) (core t) ∷ [])))
 
--- which transfer a word is, by opc1, bits 23:21: other values do nothing
+-- opc1 1 under coprocessor 11: the high half of a double
+abbrev pub highHalf : ℕ → Bool
+highHalf w = eqb (field w 21 23) 1 && eqb (field w 8 11) 11
+
+-- which transfer a word is, by opc1, bits 23:21; the high half of double N is s(2N+1), N being bits 19:16, whatever bit 7 is; any other word does
+-- nothing
 unfoldable pub transferOf : ℕ → Transfer
-transferOf w = let opc1 = field w 21 23 in cond (eqb opc1 7) System (cond (eqb opc1 0) Single Nothing)
+transferOf w =
+    let opc1 = field w 21 23 in
+    let n = field w 16 19 in
+    cond (eqb opc1 7) System
+    (cond (eqb opc1 0) (Single (record { 0 = sregOf n (field w 7 7) }))
+    (cond (highHalf w) (Single (record { 0 = highIndex n })) Nothing))
 
 abbrev pub transferBy : Transfer → Bool → ℕ → Tree
 transferBy System thumb w = systemTree w
-transferBy Single thumb w = singleTree thumb w
+transferBy (Single n) thumb w = singleTree thumb (n .0) w
 transferBy Nothing thumb w = go nothing
 
 unfoldable pub transferTree : Bool → ℕ → Tree

@@ -8,14 +8,16 @@ ghost use Prim.Native.Nat.{ℕ};
 ghost use Rattle.machine.specs.Machine.{assembled};
 ghost use Rattle.machine.specs.Place.{state};
 ghost use Rattle.meaning.specs.Tree.{out, plain};
-ghost use Rattle.transfers.specs.Transfer.{afterTransfer, transferOf, transferTree};
+ghost use Rattle.transfers.specs.Transfer.{afterTransfer, highHalf, transferOf, transferTree};
 use bits::field::bits;
 use machine::Controls;
+use machine::registers::Single;
+use machine::registers::sreg;
 
-// Which transfer a word is: of a system register, of a single, or none, which does nothing.
+// Which transfer a word is: of a system register, of a single by its number, or none, which does nothing.
 pub enum Transfer {
     System,
-    Single,
+    Single(Single),
     Nothing,
 }
 
@@ -40,9 +42,9 @@ pub fn coprocessor_register(
             controls: system::system(r, x, op),
             branched: false,
         },
-        Transfer::Single => Transferred {
+        Transfer::Single(sn) => Transferred {
             controls: x,
-            branched: single::single_core(s, r, thumb, op),
+            branched: single::single_core(s, r, thumb, sn, op),
         },
         Transfer::Nothing => Transferred {
             controls: x,
@@ -51,7 +53,7 @@ pub fn coprocessor_register(
     }
 }
 
-// By opc1, bits 23:21.
+// By opc1, bits 23:21, and for opc1 1 by the coprocessor, bits 11:8.
 pub fn transfer_of(op: u32) -> Transfer
     ensures { λ t. ⌜ t ≡ transferOf op ⌝ }
 {
@@ -59,8 +61,19 @@ pub fn transfer_of(op: u32) -> Transfer
     if opc1 == 7 {
         return Transfer::System;
     }
+    let n = bits(op, 16, 19);
     if opc1 == 0 {
-        return Transfer::Single;
+        return Transfer::Single(sreg(n, bits(op, 7, 7)));
+    }
+    if is_high_half(op) {
+        return Transfer::Single(sreg(n, 1));
     }
     Transfer::Nothing
+}
+
+// Opc1 1 under coprocessor 11: the high half of a double.
+pub fn is_high_half(op: u32) -> bool
+    ensures { λ b. ⌜ b ≡ highHalf op ⌝ }
+{
+    (bits(op, 21, 23) == 1) & (bits(op, 8, 11) == 11)
 }

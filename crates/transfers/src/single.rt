@@ -1,4 +1,4 @@
-// VMOV between a core register and a single, opc1 = 0.
+// VMOV between a core register and a single, which may be a double's high half.
 ghost use mathlib.Core.Path.{_≡_};
 ghost use mathlib.Core.List.{List};
 ghost use Prim.Native.Nat.{ℕ};
@@ -10,16 +10,15 @@ ghost use Rattle.meaning.specs.Tree.{out, plain};
 ghost use Rattle.transfers.specs.Transfer.{afterTransfer, target, singleTree};
 use bits::field::bit;
 use bits::field::bits;
+use machine::registers::Single;
 use machine::registers::get_single;
 use machine::registers::set_single;
-use machine::registers::sreg;
 
 // Whether it branched: r15 is written through `branch`.
-pub fn single_core(s: &mut [u32; 32], r: &mut [u32; 16], thumb: bool, op: u32) -> bool
-    ensures { λ b. ⌜ ((x : Controls) (v : List ℕ) → out (state (assembled (now (s .exit)) (now (r .exit)) x thumb) v) (afterTransfer b) ≡ plain (singleTree thumb op) (state (assembled (now (s .entry)) (now (r .entry)) x thumb) v)) ⌝ }
+pub fn single_core(s: &mut [u32; 32], r: &mut [u32; 16], thumb: bool, sn: Single, op: u32) -> bool
+    ensures { λ b. ⌜ ((x : Controls) (v : List ℕ) → out (state (assembled (now (s .exit)) (now (r .exit)) x thumb) v) (afterTransfer b) ≡ plain (singleTree thumb (sn .0) op) (state (assembled (now (s .entry)) (now (r .entry)) x thumb) v)) ⌝ }
 {
     let rt = bits(op, 12, 15) as usize;
-    let sn = sreg(bits(op, 16, 19), bits(op, 7, 7));
     if bit(op, 20) {
         let value = get_single(s, sn);
         if rt == 15 {

@@ -158,9 +158,9 @@ fn watch_transfer(s: &mut [u32; 32], r: &mut [u32; 16], x: Controls, marks: u64,
                 next: Next::On,
             }
         }
-        Transfer::Single => {
-            let known = mark_single_core(marks, op);
-            if single_core(s, r, false, op) {
+        Transfer::Single(sn) => {
+            let known = mark_single_core(marks, sn, op);
+            if single_core(s, r, false, sn, op) {
                 return Seen {
                     controls: x,
                     marks: known,

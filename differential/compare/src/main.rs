@@ -82,7 +82,7 @@ impl Comparison {
 }
 
 /// every decode index, that is bits 23:20, 19:16, 7 and 6, in both precisions, ARM and Thumb; and every opc1, register and
-/// direction of a transfer under all sixteen coprocessors.
+/// direction of a transfer under all sixteen coprocessors, but opc1 1 under 11 (cases::left_out).
 fn indices(c: &mut Comparison, r: &mut Random) {
     let mut state = [0; STATE];
     for round in 0..16u32 {
@@ -99,10 +99,12 @@ fn indices(c: &mut Comparison, r: &mut Random) {
                 let word = r.word() & 0xFF00_00FF | head << 16 | target << 12 | coprocessor << 8;
                 cases::machine(r, &mut state, 0, 0);
                 let given = state;
-                c.call(Call::CoprocessorRegister, round % 2 == 1, word, 0, &mut state, &mut []);
-                if matches!(coprocessor, 10 | 11) {
-                    state = given;
-                    c.call(Call::Wrapper, round % 2 == 1, word, 0, &mut state, &mut []);
+                if !cases::left_out(word) {
+                    c.call(Call::CoprocessorRegister, round % 2 == 1, word, 0, &mut state, &mut []);
+                    if matches!(coprocessor, 10 | 11) {
+                        state = given;
+                        c.call(Call::Wrapper, round % 2 == 1, word, 0, &mut state, &mut []);
+                    }
                 }
                 cases::machine(r, &mut state, 0, 0);
                 c.call(Call::DataProcessing, round % 2 == 1, word, 0, &mut state, &mut []);
@@ -225,6 +227,7 @@ fn main() {
     println!("{:24} {:>12}", "conditions", c.conditions);
     println!("{:24} {:>12}", "255", c.invalid);
     println!("{:24} {:>12}", "calls", c.calls);
+    println!("{}", cases::LEFT_OUT);
     println!("{:24} {:>12}", "disagreements", c.wrong);
     println!("{:24} {:>12}", "seconds", c.started.elapsed().as_secs());
     if c.wrong > 0 {

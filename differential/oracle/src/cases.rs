@@ -158,8 +158,26 @@ const FIXED: [(Call, u32, u32); 46] = [
     (Call::LoadStore, 0x0C20_0000, 0x0E20_0000),
 ];
 
-/// a word of every kind in turn: `kind` is any number.
+/// what a comparison says that it leaves out.
+pub const LEFT_OUT: &str = "left out: transfers of opc1 1 under coprocessor 11, the high halves of doubles (2026-01)";
+
+/// the transfers that a comparison leaves out: opc1 1 under coprocessor 11, where vfp.rs does nothing. The unit moves the high half of a double
+/// there, by the manual (request 2026-01), and its definition judges these words.
+pub fn left_out(word: u32) -> bool {
+    field(word, 21, 3) == 1 && field(word, 8, 4) == 11
+}
+
+/// a word of every kind in turn, but those left out: `kind` is any number.
 pub fn word(r: &mut Random, kind: u64) -> (Call, u32) {
+    loop {
+        let (call, word) = any_word(r, kind);
+        if call != Call::CoprocessorRegister || !left_out(word) {
+            return (call, word);
+        }
+    }
+}
+
+fn any_word(r: &mut Random, kind: u64) -> (Call, u32) {
     let (call, fixed, mask) = FIXED[(kind % FIXED.len() as u64) as usize];
     let mut word = r.word() & !mask | fixed;
     if call == Call::LoadStore {

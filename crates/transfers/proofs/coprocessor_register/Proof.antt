@@ -20,14 +20,14 @@ enum-told c = search needs
 system-requires : tie.Need-system-requires
 system-requires c κs = search needs
 
-enum-told-2 : tie.Need-enum-told-2
-enum-told-2 c = search needs
+enum-known-transfer : tie.Need-enum-known-transfer
+enum-known-transfer c = search needs
 
 single-core-requires : tie.Need-single-core-requires
 single-core-requires c κs = search needs
 
-enum-told-3 : tie.Need-enum-told-3
-enum-told-3 c = search needs
+enum-told-2 : tie.Need-enum-told-2
+enum-told-2 c = search needs
 
 returns : tie.Need-returns
 unfolding transferTree
@@ -35,11 +35,11 @@ returns c = λ v. rw (sym (c .before .before .before .before .transfer-of .ensur
 
 returns-2 : tie.Need-returns-2
 unfolding transferTree
-returns-2 c = λ v. rw (sym (c .before .before .before .before .before .transfer-of .ensures) ∙ c .before .before .before .enum-told2 .given .1) (c .single-core .ensures _ _)
+returns-2 c = λ v. rw (sym (c .before .before .before .before .before .before .transfer-of .ensures) ∙ c .before .before .before .before .transfer .given .1) (c .single-core .ensures _ _)
 
 returns-3 : tie.Need-returns-3
 unfolding transferTree
-returns-3 c = λ v. rw (sym (c .before .before .transfer-of .ensures) ∙ c .enum-told3 .given .1) (plain-nothing _)
+returns-3 c = λ v. rw (sym (c .before .before .transfer-of .ensures) ∙ c .enum-told2 .given .1) (plain-nothing _)
 
 pub coprocessor-register-spec : {M : Type 1} → statement M
 coprocessor-register-spec =
@@ -48,9 +48,9 @@ coprocessor-register-spec =
     transfer-of-requires
     enum-told
     system-requires
-    enum-told-2
+    enum-known-transfer
     single-core-requires
-    enum-told-3
+    enum-told-2
     returns
     returns-2
     returns-3)

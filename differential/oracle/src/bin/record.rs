@@ -1,4 +1,5 @@
-//! record FILE [OF_EACH]: writes a sample of the Rust's answers, some of every operation in every width, of every answer, ARM and Thumb.
+//! record FILE [OF_EACH]: writes a sample of the Rust's answers, some of every operation in every width, of every answer, ARM and Thumb. The transfers
+//! that cases::left_out names are not among them.
 //! A record is 128 words of 32 bits, lowest byte first:
 //! 0 call (as Call::number, or 4: conditions), 1 thumb, 2 word, 3 base, 4 window words, 5 kind, 6 address, 7 word reported,
 //! 8 to 59 the state given, 60 to 67 the window given, 68 to 119 the state left, 120 to 127 the window left.
@@ -83,4 +84,5 @@ fn main() {
     println!("refusals 2, 3, 4: {:?}", &refused[2..]);
     std::fs::File::create(path).unwrap().write_all(&out).unwrap();
     println!("{} records", out.len() / 512);
+    println!("{}", cases::LEFT_OUT);
 }

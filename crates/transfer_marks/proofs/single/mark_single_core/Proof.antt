@@ -13,15 +13,6 @@ bits-requires c κs = search needs
 cast-rt : tie.Need-cast-rt
 cast-rt c = search needs
 
-bits-requires-2 : tie.Need-bits-requires-2
-bits-requires-2 c κs = search needs
-
-bits-requires-3 : tie.Need-bits-requires-3
-bits-requires-3 c κs = search needs
-
-sreg-requires : tie.Need-sreg-requires
-sreg-requires c κs = search needs
-
 bit-requires : tie.Need-bit-requires
 bit-requires c κs = search needs
 
@@ -32,7 +23,7 @@ mark-core-requires : tie.Need-mark-core-requires
 mark-core-requires c κs = search needs
 
 returns : tie.Need-returns
-returns c = λ thumb st w. rw (sym (c .before .before .before .bit .ensures) ∙ c .before .before .if1 .taken) (read-single thumb _ _ st (mapIn (c .before .before .before .before .before .before .before .before .args .marks) w) _ (rw (c .before .single-known .ensures w, c .before .before .before .before .sreg .ensures, c .before .before .before .before .before .before .bits2 .ensures, c .before .before .before .before .before .bits3 .ensures, c .before .before .before .before .before .before .before .bits .ensures) at (c .mark-core .ensures w)))
+returns c = λ thumb st w. rw (sym (c .before .before .before .bit .ensures) ∙ c .before .before .if1 .taken) (read-single thumb _ _ st (mapIn (c .before .before .before .before .before .args .marks) w) _ (rw (c .before .single-known .ensures w, c .before .before .before .before .bits .ensures) at (c .mark-core .ensures w)))
 
 core-known-requires : tie.Need-core-known-requires
 core-known-requires c κs = search needs
@@ -41,7 +32,7 @@ mark-single-requires : tie.Need-mark-single-requires
 mark-single-requires c κs = search needs
 
 returns-2 : tie.Need-returns-2
-returns-2 c = λ thumb st w. rw (sym (c .before .before .before .bit .ensures) ∙ c .before .before .if1 .left) (marked-once _ _ _ _ (rw (c .before .core-known .ensures w, c .before .before .before .before .sreg .ensures, c .before .before .before .before .before .before .bits2 .ensures, c .before .before .before .before .before .bits3 .ensures, c .before .before .before .before .before .before .before .bits .ensures) at (c .mark-single .ensures w)))
+returns-2 c = λ thumb st w. rw (sym (c .before .before .before .bit .ensures) ∙ c .before .before .if1 .left) (marked-once _ _ _ _ (rw (c .before .core-known .ensures w, c .before .before .before .before .bits .ensures) at (c .mark-single .ensures w)))
 
 pub mark-single-core-spec : {M : Type 1} → statement M
 mark-single-core-spec =
@@ -49,9 +40,6 @@ mark-single-core-spec =
     (tie.spec
     bits-requires
     cast-rt
-    bits-requires-2
-    bits-requires-3
-    sreg-requires
     bit-requires
     single-known-requires
     mark-core-requires

@@ -1,7 +1,5 @@
 -- `transfer_mnemonics::transfer::single` meets its contract.
-use mathlib.Core.List.{append-assoc}
 use borrow.Author.Needs.{needs}
-use Rattle.text.proofs.Chain.{more, ended}
 use Rattle.transfer_mnemonics.specs.Transfer.{singleText}
 use Rattle.transfer_mnemonics.proofs.transfer.single.Statement.{statement}
 use Rattle.transfer_mnemonics.proofs.transfer.single.Tie as tie
@@ -15,16 +13,11 @@ single-spec =
     (λ c κs. search needs)
     (λ c κs. search needs)
     (λ c. search needs)
-    (λ c κs. search needs)
-    (λ c κs. search needs)
     (λ c. search needs)
     (λ c κs. search needs)
-    (λ c κs. search needs)
-    (λ c. rw (← c .before .before .before .before .before .before .before .bit .ensures, c .before .before .before .before .before .before .if1 .taken, ← c .before .before .before .before .before .before .before .before .before .bits .ensures, ← c .before .before .before .before .before .before .before .before .single-n .ensures .0) (ended _ _ _ (more _ _ _ _ (more _ _ _ _ (more _ _ _ _ (c .before .before .before .before .named .ensures) (c .before .before .before .core .ensures)) (c .before .add .ensures)) (c .register .ensures)) (simp append-assoc)))
-    (λ c. search needs)
-    (λ c κs. search needs)
+    (λ c. rw (← c .before .before .before .before .before .before .is-high-half .ensures, c .before .before .before .before .before .if1 .taken, ← c .before .before .before .before .bits .ensures, ← c .before .before .before .index .ensures) (c .moved .ensures))
     (λ c κs. search needs)
     (λ c. search needs)
+    (λ c. search needs)
     (λ c κs. search needs)
-    (λ c κs. search needs)
-    (λ c. rw (← c .before .before .before .before .before .before .before .bit .ensures, c .before .before .before .before .before .before .if1 .left, ← c .before .before .before .before .before .before .before .before .before .bits .ensures, ← c .before .before .before .before .before .before .before .before .single-n .ensures .0) (ended _ _ _ (more _ _ _ _ (more _ _ _ _ (more _ _ _ _ (c .before .before .before .before .named2 .ensures) (c .before .before .before .register2 .ensures)) (c .before .add2 .ensures)) (c .core2 .ensures)) (simp append-assoc))))
+    (λ c. rw (← c .before .before .before .before .before .is-high-half .ensures, c .before .before .before .before .if1 .left, ← c .before .before .before .single-n .ensures .0) (c .moved2 .ensures)))

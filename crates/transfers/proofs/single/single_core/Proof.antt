@@ -12,15 +12,6 @@ bits-requires c κs = search needs
 cast-rt : tie.Need-cast-rt
 cast-rt c = search needs
 
-bits-requires-2 : tie.Need-bits-requires-2
-bits-requires-2 c κs = search needs
-
-bits-requires-3 : tie.Need-bits-requires-3
-bits-requires-3 c κs = search needs
-
-sreg-requires : tie.Need-sreg-requires
-sreg-requires c κs = search needs
-
 bit-requires : tie.Need-bit-requires
 bit-requires c κs = search needs
 
@@ -31,7 +22,7 @@ branch-requires : tie.Need-branch-requires
 branch-requires c κs = search needs
 
 returns : tie.Need-returns
-returns c = λ x v. rw (sym (c .before .before .before .before .before .before .bit .ensures) ∙ c .before .before .before .before .before .if1 .taken, sym (c .before .before .before .before .before .before .before .before .before .before .bits .ensures) ∙ c .before .before .if2 .taken) (plain-branch _ _ _ (rw (c .branch .ensures, c .before .before .before .get-single .ensures, c .before .before .before .before .before .before .before .sreg .ensures, c .before .before .before .before .before .before .before .before .before .bits2 .ensures, c .before .before .before .before .before .before .before .before .bits3 .ensures)))
+returns c = λ x v. rw (sym (c .before .before .before .before .before .before .bit .ensures) ∙ c .before .before .before .before .before .if1 .taken, sym (c .before .before .before .before .before .before .before .bits .ensures) ∙ c .before .before .if2 .taken) (plain-branch _ _ _ (rw (c .branch .ensures, c .before .before .before .get-single .ensures)))
 
 mul-r : tie.Need-mul-r
 mul-r c = search needs
@@ -40,7 +31,7 @@ element-write-r : tie.Need-element-write-r
 element-write-r c = search needs
 
 returns-2 : tie.Need-returns-2
-returns-2 c = λ x v. rw (sym (c .before .before .before .before .bit .ensures) ∙ c .before .before .before .if1 .taken, ne-eqb _ _ (rw (c .before .before .before .before .before .before .before .before .bits .ensures) at (c .if2 .left))) (plain-once _ _ _ (rw (c .before .get-single .ensures, c .before .before .before .before .before .sreg .ensures, c .before .before .before .before .before .before .before .before .bits .ensures, c .before .before .before .before .before .before .before .bits2 .ensures, c .before .before .before .before .before .before .bits3 .ensures)))
+returns-2 c = λ x v. rw (sym (c .before .before .before .before .bit .ensures) ∙ c .before .before .before .if1 .taken, ne-eqb _ _ (rw (c .before .before .before .before .before .bits .ensures) at (c .if2 .left))) (plain-once _ _ _ (rw (c .before .get-single .ensures, c .before .before .before .before .before .bits .ensures)))
 
 mul-value : tie.Need-mul-value
 mul-value c = search needs
@@ -52,7 +43,7 @@ set-single-requires : tie.Need-set-single-requires
 set-single-requires c κs = search needs
 
 returns-3 : tie.Need-returns-3
-returns-3 c = λ x v. rw (sym (c .before .before .before .before .bit .ensures) ∙ c .before .before .before .if1 .left) (plain-once _ _ _ (rw (c .set-single .ensures, c .before .before .before .before .before .sreg .ensures, c .before .before .before .before .before .before .before .before .bits .ensures, c .before .before .before .before .before .before .before .bits2 .ensures, c .before .before .before .before .before .before .bits3 .ensures)))
+returns-3 c = λ x v. rw (sym (c .before .before .before .before .bit .ensures) ∙ c .before .before .before .if1 .left) (plain-once _ _ _ (rw (c .set-single .ensures, c .before .before .before .before .before .bits .ensures)))
 
 pub single-core-spec : {M : Type 1} → statement M
 single-core-spec =
@@ -60,9 +51,6 @@ single-core-spec =
     (tie.spec
     bits-requires
     cast-rt
-    bits-requires-2
-    bits-requires-3
-    sreg-requires
     bit-requires
     get-single-requires
     branch-requires
