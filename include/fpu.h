@@ -77,7 +77,8 @@ uint32_t fpu_coprocessor_register(uint32_t *state, size_t state_words, uint32_t 
 uint32_t fpu_coprocessor_load_store(uint32_t *state, size_t state_words, uint32_t *window, size_t window_words, uint32_t base,
                                     uint32_t thumb, uint32_t word, uint32_t *answer, size_t answer_words);
 
-/* Runs a list of words over a window, each under its condition, and counts those that were run, skipped ones too. Gives FPU_FINISHED
+/* Runs a list of words over a window, each under its condition, and counts those that were run, skipped ones too. While bit 30 of FPEXC is clear every
+ * word whose condition holds is Undefined, but transfers of system registers 0 and 8. Gives FPU_FINISHED
  * at the list's end, FPU_FOREIGN or FPU_UNDEFINED before a word that is not counted, FPU_BRANCHED after one that is, or one of the
  * refusals 101 to 105, the first that applies. */
 uint32_t fpu_run(uint32_t *state, size_t state_words, uint32_t *window, size_t window_words, uint32_t base, uint32_t thumb,

@@ -25,7 +25,7 @@ use Rattle.transfers.specs.declared.Transfer.the-variants.{System, Single, Noth
 use Rattle.transfers.specs.Transfer.{transferTree, transferOf, transferBy, systemTree, singleTree}
 use Rattle.memory.specs.LoadStore.{accessTree, loadStoreTree}
 use Rattle.limits.specs.Limit.{runLimit}
-use Rattle.run_word.specs.Word.{foreignWord, classTree, conditioned, meaning}
+use Rattle.run_word.specs.Word.{foreignWord, classTree, exempt, enabled, conditioned, meaning}
 use Rattle.progress.specs.declared.Ran.{Ran}
 use Rattle.watch.specs.declared.Watched.{Watched}
 use Rattle.watch.specs.Watch.{limitOf, watchReply}
@@ -123,6 +123,10 @@ near-class : (base w : ℕ) → Near (classTree base w)
 unfolding classTree
 near-class base w = either (eqb (field w 25 27) 0b110) _ _ (near-load-store base w) (either (bitOf w 4) _ _ (near-transfer false w) (near-data false w))
 
+near-enabled : (w : ℕ) (t : Tree) → Near t → Near (enabled w t)
+unfolding enabled Near
+near-enabled w t h = either (exempt w) t _ h (omega arith, λ e. either (bitOf e 30) t (undefinedTree false w) h (near-undefined false w))
+
 near-conditioned : (c : ℕ) (t : Tree) → Near t → Near (conditioned c t)
 unfolding conditioned Near
 near-conditioned c t h = either (eqb c 14) t _ h (omega arith, λ f. either (holds c (psrOf f)) t (go nothing) h refl)
@@ -133,7 +137,7 @@ near-foreign = (omega arith, omega arith)
 
 pub near-meaning : (base w : ℕ) → Near (meaning base w)
 unfolding meaning
-near-meaning base w = either (foreignWord w) _ _ near-foreign (near-conditioned (field w 28 31) (classTree base w) (near-class base w))
+near-meaning base w = either (foreignWord w) _ _ near-foreign (near-conditioned (field w 28 31) (enabled w (classTree base w)) (near-enabled w (classTree base w) (near-class base w)))
 
 -- ---- the stops and the counts of runs
 

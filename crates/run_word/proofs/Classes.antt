@@ -13,10 +13,11 @@ use Rattle.bits.specs.declared.psr.Psr.{Psr}
 use Rattle.machine.specs.Place.{State}
 use Rattle.meaning.specs.Tree.{Tree, Out, plain}
 use Rattle.meaning.proofs.Laws.{plain-nothing}
-use Rattle.run_word.specs.Word.{foreignWord, classTree, meaning}
-use Rattle.run_word.specs.Class.{classOf, treeOf}
+use Rattle.run_word.specs.Word.{foreignWord, classTree, exempt, enabled, meaning}
+use Rattle.run_word.specs.Class.{classOf, disabledClass, enabledClass, treeOf}
 use Rattle.run_word.specs.declared.class.Class.{Class}
-use Rattle.run_word.specs.declared.class.Class.the-variants.{Data, Access, Transfer, Skipped, Foreign}
+use Rattle.run_word.specs.declared.class.Class.the-variants.{Data, Access, Transfer, Skipped, Foreign, Off}
+use Rattle.run_word.proofs.Enables.{goes-on, exempted, goes-off, exempt-class}
 use Rattle.run_word.proofs.Words.{foreign-tests, meaning-foreign, meaning-word, always, condition-holds, condition-fails}
 
 -- ---- the masks
@@ -107,23 +108,40 @@ class-tree base w = by (eqb (field w 25 27) 0b110) (bitOf w 4)
 
 -- what a class's tree gives is what the word's meaning gives
 module _ (base w : ℕ) (st : State) (o : Out) where
-  pub by-class : (c : Class) → c ≡ classOf w (st .machine .cpsr) → o ≡ plain (treeOf base w c) st → o ≡ plain (meaning base w) st
-  by-class c p e = by (foreignWord w) refl (holds (field w 28 31) (st .machine .cpsr)) refl (subst (λ (z : Class). o ≡ plain (treeOf base w z) st) p e)
+  -- of a class of an enabled unit
+  abbrev one-of-three : Class
+  one-of-three = cond (eqb (field w 25 27) 0b110) Access (cond (bitOf w 4) Transfer Data)
+
+  abbrev unit : Tree
+  unit = enabled w (classTree base w)
+
+  pub by-class : (c : Class) → c ≡ enabledClass w (st .machine .cpsr) (st .machine .fpexc) → o ≡ plain (treeOf base w c) st → o ≡ plain (meaning base w) st
+  by-class c p e =
+      by (bitOf (st .machine .fpexc) 30) refl (foreignWord w) refl (holds (field w 28 31) (st .machine .cpsr)) refl (exempt w) refl
+      (subst (λ (z : Class). o ≡ plain (treeOf base w z) st) p e)
     where
-      by : (f : Bool) → f ≡ foreignWord w → (b : Bool) → holds (field w 28 31) (st .machine .cpsr) ≡ b
-          → o ≡ plain (treeOf base w (cond f Foreign (cond b (cond (eqb (field w 25 27) 0b110) Access (cond (bitOf w 4) Transfer Data)) Skipped))) st
+      by : (z : Bool) → bitOf (st .machine .fpexc) 30 ≡ z → (f : Bool) → f ≡ foreignWord w → (b : Bool) → holds (field w 28 31) (st .machine .cpsr) ≡ b → (x : Bool) → exempt w ≡ x
+          → o ≡ plain (treeOf base w (cond z (cond f Foreign (cond b one-of-three Skipped)) (cond f Foreign (cond b (cond x Transfer Off) Skipped)))) st
           → o ≡ plain (meaning base w) st
-      by true q b g e = rw (meaning-foreign base w true q refl) e
-      by false q true g e = rw (meaning-word base w false q refl) (condition-holds (field w 28 31) (classTree base w) st o g (rw (class-tree base w) at e))
-      by false q false g e = rw (meaning-word base w false q refl) (e ∙ sym (plain-nothing st) ∙ condition-fails (field w 28 31) (classTree base w) st g)
+      by true d true q b g x i e = rw (meaning-foreign base w true q refl) e
+      by false d true q b g x i e = rw (meaning-foreign base w true q refl) e
+      by true d false q true g x i e =
+          rw (meaning-word base w false q refl) (condition-holds (field w 28 31) unit st o g (goes-on w (classTree base w) st o d (rw (class-tree base w) at e)))
+      by false d false q true g true i e =
+          rw (meaning-word base w false q refl) (condition-holds (field w 28 31) unit st o g (exempted w (classTree base w) st o i (rw (exempt-class base w i) e)))
+      by false d false q true g false i e =
+          rw (meaning-word base w false q refl) (condition-holds (field w 28 31) unit st o g (goes-off w (classTree base w) st o d i e))
+      by true d false q false g x i e = rw (meaning-word base w false q refl) (e ∙ sym (plain-nothing st) ∙ condition-fails (field w 28 31) unit st g)
+      by false d false q false g x i e = rw (meaning-word base w false q refl) (e ∙ sym (plain-nothing st) ∙ condition-fails (field w 28 31) unit st g)
 
 -- a word of data processing is one of coprocessor 10 or 11
-pub data-word : (w : ℕ) (flags : Psr) → w < 2 ^ 32 → Data ≡ classOf w flags → field w 9 11 ≡ 0b101
-data-word w flags h e = by (foreignWord w) refl
+pub data-word : (w : ℕ) (flags : Psr) (x : ℕ) → w < 2 ^ 32 → Data ≡ enabledClass w flags x → field w 9 11 ≡ 0b101
+data-word w flags x h e = by (foreignWord w) refl (bitOf x 30) e
   where
-    by : (f : Bool) → foreignWord w ≡ f → field w 9 11 ≡ 0b101
-    by true g = let z : Data ≡ Foreign = e ∙ rw g in let y : _≡_ {A = ℕ} 0 1 = cc in absurd (omega arith)
-    by false g = vfp-word w h g
+    by : (f : Bool) → foreignWord w ≡ f → (d : Bool) → Data ≡ cond d (classOf w flags) (disabledClass w flags) → field w 9 11 ≡ 0b101
+    by true g true k = let z : Data ≡ Foreign = rw g at k in let y : _≡_ {A = ℕ} 0 1 = cc in absurd (omega arith)
+    by true g false k = let z : Data ≡ Foreign = rw g at k in let y : _≡_ {A = ℕ} 0 1 = cc in absurd (omega arith)
+    by false g d k = vfp-word w h g
 
 -- ---- the class of a word that no mask tells
 
@@ -149,3 +167,16 @@ module _ (w : ℕ) (flags : Psr) (f : Bool) (p : f ≡ foreignWord w) where
 
       pub class-group : (k ≡ 0b110 → ⊥) → (t : Bool) → t ≡ bitOf w 4 → cond t Transfer Data ≡ classOf w flags
       class-group n t j = rw (← p, no, ← q, passes b passed, ← i, ne-eqb k 0b110 n, ← j)
+
+-- ---- with the unit off
+
+module _ (w : ℕ) (flags : Psr) (f : Bool) (p : f ≡ foreignWord w) where
+  pub off-foreign : f ≡ true → Foreign ≡ disabledClass w flags
+  off-foreign e = rw (← p, e)
+
+  module _ (no : f ≡ false) (b : Bool) (q : b ≡ holds (field w 28 31) flags) where
+    pub off-skipped : not b ≡ true → Skipped ≡ disabledClass w flags
+    off-skipped e = rw (← p, no, ← q, fails b e)
+
+    pub off-class : not b ≡ false → (x : Bool) → x ≡ exempt w → cond x Transfer Off ≡ disabledClass w flags
+    off-class e x i = rw (← p, no, ← q, passes b e, ← i)

@@ -1,5 +1,6 @@
 -- Laws of the crate's proofs.
 
 pub mod Words
+pub mod Enables
 pub mod Classes
 mod Scalars

@@ -23,7 +23,7 @@ use Rattle.processing.specs.declared.Processed.{Processed}
 use Rattle.processing.specs.declared.Processed.the-variants.{Done, Undefined}
 use Rattle.processing.specs.Data.{dataTree, Handled}
 use Rattle.transfers.specs.Transfer.{transferTree}
-use Rattle.run_word.specs.Word.{foreignWord, classTree, conditioned, meaning}
+use Rattle.run_word.specs.Word.{foreignWord, classTree, enabled, conditioned, meaning}
 use Rattle.meaning.specs.Stop as S
 
 -- ---- the class
@@ -99,7 +99,7 @@ pub meaning-foreign : (base w : ℕ) (b : Bool) → b ≡ foreignWord w → b �
 unfolding meaning
 meaning-foreign base w b p e = rw (← p, e)
 
-pub meaning-word : (base w : ℕ) (b : Bool) → b ≡ foreignWord w → b ≡ false → meaning base w ≡ conditioned (field w 28 31) (classTree base w)
+pub meaning-word : (base w : ℕ) (b : Bool) → b ≡ foreignWord w → b ≡ false → meaning base w ≡ conditioned (field w 28 31) (enabled w (classTree base w))
 unfolding meaning
 meaning-word base w b p e = rw (← p, e)
 

@@ -9,16 +9,23 @@ use Rattle.meaning.specs.Step.{nothing}
 use Rattle.meaning.specs.Stop as Stop
 use Rattle.meaning.specs.Tree.{Tree, stop, go}
 use Rattle.memory.specs.LoadStore.{loadStoreTree}
-use Rattle.processing.specs.Data.{dataTree}
+use Rattle.processing.specs.Data.{undefinedTree, dataTree}
 use Rattle.transfers.specs.Transfer.{transferTree}
-use Rattle.run_word.specs.Word.{foreignWord}
+use Rattle.run_word.specs.Word.{foreignWord, exempt}
 use Rattle.run_word.specs.declared.class.Class.{Class}
-use Rattle.run_word.specs.declared.class.Class.the-variants.{Data, Access, Transfer, Skipped, Foreign}
+use Rattle.run_word.specs.declared.class.Class.the-variants.{Data, Access, Transfer, Skipped, Foreign, Off}
 
 abbrev pub classOf : ℕ → Psr → Class
 classOf w flags =
     cond (foreignWord w) Foreign
     (cond (holds (field w 28 31) flags) (cond (eqb (field w 25 27) 0b110) Access (cond (bitOf w 4) Transfer Data)) Skipped)
+
+-- with the unit off, and by FPEXC: bit 30 enables the unit
+abbrev pub disabledClass : ℕ → Psr → Class
+disabledClass w flags = cond (foreignWord w) Foreign (cond (holds (field w 28 31) flags) (cond (exempt w) Transfer Off) Skipped)
+
+abbrev pub enabledClass : ℕ → Psr → ℕ → Class
+enabledClass w flags e = cond (bitOf e 30) (classOf w flags) (disabledClass w flags)
 
 abbrev pub treeOf : ℕ → ℕ → Class → Tree
 treeOf base w Data = dataTree false w
@@ -26,3 +33,4 @@ treeOf base w Access = loadStoreTree base w
 treeOf base w Transfer = transferTree false w
 treeOf base w Skipped = go nothing
 treeOf base w Foreign = stop Stop.foreign
+treeOf base w Off = undefinedTree false w

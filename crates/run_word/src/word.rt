@@ -14,7 +14,7 @@ ghost use Rattle.run_word.specs.Stop.{nextOf};
 use super::Next;
 use super::Stop;
 use super::class::Class;
-use super::class::class_of;
+use super::class::enabled_class;
 use super::data::process_data;
 use bits::field::bits;
 use machine::Controls;
@@ -23,6 +23,7 @@ use transfers::Transfer;
 use transfers::single::single_core;
 use transfers::system::system;
 use transfers::transfer_of;
+use vfp::current_pc;
 
 // What is no array after a word, and what follows it.
 pub struct Executed {
@@ -44,7 +45,7 @@ pub fn execute(
     ensures { λ e. ⌜ out (state (assembled (now (s .exit)) (now (r .exit)) (e .controls) false) (now (window .exit))) (nextOf (e .next)) ≡ plain (meaning base op) (state (assembled (now (s .entry)) (now (r .entry)) x false) (now (window .entry))) ⌝ }
 {
     let flags = x.cpsr;
-    let class = class_of(op, flags);
+    let class = enabled_class(op, flags, x.fpexc);
     match class {
         Class::Data => process_data(table, s, r, x, op),
         Class::Access => {
@@ -63,6 +64,13 @@ pub fn execute(
             controls: x,
             next: Next::Halt(Stop::Foreign),
         },
+        Class::Off => {
+            let pc = current_pc(r[15], false);
+            Executed {
+                controls: x,
+                next: Next::Halt(Stop::Undefined { pc, opcode: op }),
+            }
+        }
     }
 }
 

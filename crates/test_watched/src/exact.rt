@@ -1,4 +1,5 @@
 // The mark rules, word by word: from many maps one word leaves just the map that its rules give, or hangs on what it asks for.
+use super::sides::Outcome;
 use super::sides::Side;
 use super::sides::base;
 use super::sides::place;
@@ -13,8 +14,10 @@ use machine::place::NZCV;
 use machine::place::PC;
 use machine::place::WINDOW;
 
-// The places that a word asks for, and up to four rules: the targets become known just where all sources are.
+// FPEXC, or nothing for an exempt word; the place that a word asks for after it; and up to four rules: the targets become known just where all
+// sources are.
 pub struct Rules {
+    pub enable: u64,
     pub asks: u64,
     pub s1: u64,
     pub t1: u64,
@@ -33,7 +36,7 @@ pub struct Tally {
     pub differ: u64,
 }
 
-fn more(x: u64, by: bool) -> u64 {
+pub fn more(x: u64, by: bool) -> u64 {
     if by {
         if x < 0xFFFF_FFFF {
             return x + 1;
@@ -74,17 +77,25 @@ fn side(fpscr: u32) -> Side {
     Side { machine, window }
 }
 
-fn right(word: u32, fpscr: u32, r: Rules, k: u64) -> bool {
-    let list: [u32; 1] = [word];
-    let a = watched(side(fpscr), k, &list[..]);
-    if k & r.asks == r.asks {
-        return (a.known == expected(k, r)) & (a.count == 1);
-    }
+// A hang on a place, before the word.
+fn hung(a: Outcome, k: u64, on: u64) -> bool {
     (a.known == k)
         & (a.count == 0)
         & (a.kind == 4)
         & (a.value < 64)
-        & (place(a.value as usize) == r.asks)
+        & (place(a.value as usize) == on)
+}
+
+fn right(word: u32, fpscr: u32, r: Rules, k: u64) -> bool {
+    let list: [u32; 1] = [word];
+    let a = watched(side(fpscr), k, &list[..]);
+    if k & r.enable != r.enable {
+        return hung(a, k, r.enable);
+    }
+    if k & r.asks != r.asks {
+        return hung(a, k, r.asks);
+    }
+    (a.known == expected(k, r)) & (a.count == 1)
 }
 
 fn shown(word: u32, k: u64) {
@@ -109,14 +120,15 @@ fn tried(t: Tally, word: u32, fpscr: u32, r: Rules, k: u64) -> Tally {
 
 // From just the sources of each rule with what is asked for, from all but one place, and from one place with what is asked for.
 pub fn case(t: Tally, word: u32, fpscr: u32, r: Rules) -> Tally {
-    let mut u = tried(t, word, fpscr, r, r.asks | r.s1);
-    u = tried(u, word, fpscr, r, r.asks | r.s2);
-    u = tried(u, word, fpscr, r, r.asks | r.s3);
-    u = tried(u, word, fpscr, r, r.asks | r.s4);
-    u = tried(u, word, fpscr, r, r.asks);
+    let asks = r.enable | r.asks;
+    let mut u = tried(t, word, fpscr, r, asks | r.s1);
+    u = tried(u, word, fpscr, r, asks | r.s2);
+    u = tried(u, word, fpscr, r, asks | r.s3);
+    u = tried(u, word, fpscr, r, asks | r.s4);
+    u = tried(u, word, fpscr, r, asks);
     for p in 0..64 {
         u = tried(u, word, fpscr, r, 0xFFFF_FFFF_FFFF_FFFF ^ place(p));
-        u = tried(u, word, fpscr, r, r.asks | place(p));
+        u = tried(u, word, fpscr, r, asks | place(p));
     }
     Tally {
         words: more(u.words, true),
@@ -146,6 +158,7 @@ fn four(
     t4: u64,
 ) -> Rules {
     Rules {
+        enable: place(EXC),
         asks,
         s1,
         t1,
@@ -155,6 +168,22 @@ fn four(
         t3,
         s4,
         t4,
+    }
+}
+
+// The same for a transfer of system register 0 or 8, which asks for no FPEXC.
+fn exempt(s: u64, t: u64) -> Rules {
+    Rules {
+        enable: 0,
+        asks: 0,
+        s1: s,
+        t1: t,
+        s2: 0,
+        t2: 0,
+        s3: 0,
+        t3: 0,
+        s4: 0,
+        t4: 0,
     }
 }
 
@@ -381,10 +410,10 @@ fn system_reads(t: Tally) -> Tally {
         one(0, place(FLAGS) | place(CONTROL), place(CORE + 3)),
     );
     let b = case(a, 0xEEF1_FA10, 0, one(0, place(FLAGS), place(NZCV)));
-    let c = case(b, 0xEEF8_3A10, 0, one(0, place(EXC), place(CORE + 3)));
-    let e = case(c, 0xEEF8_FA10, 0, one(0, place(EXC), place(NZCV)));
-    let f = case(e, 0xEEF0_3A10, 0, one(0, 0, place(CORE + 3)));
-    case(f, 0xEEF0_FA10, 0, one(0, 0, place(NZCV)))
+    let c = case(b, 0xEEF8_3A10, 0, exempt(place(EXC), place(CORE + 3)));
+    let e = case(c, 0xEEF8_FA10, 0, exempt(place(EXC), place(NZCV)));
+    let f = case(e, 0xEEF0_3A10, 0, exempt(0, place(CORE + 3)));
+    case(f, 0xEEF0_FA10, 0, exempt(0, place(NZCV)))
 }
 
 fn system_writes(t: Tally) -> Tally {
@@ -394,8 +423,9 @@ fn system_writes(t: Tally) -> Tally {
         0,
         one(0, place(CORE + 3), place(FLAGS) | place(CONTROL)),
     );
-    let b = case(a, 0xEEE8_3A10, 0, one(0, place(CORE + 3), place(EXC)));
-    case(b, 0xEEE4_3A10, 0, one(0, 0, 0))
+    let b = case(a, 0xEEE8_3A10, 0, exempt(place(CORE + 3), place(EXC)));
+    let c = case(b, 0xEEE0_3A10, 0, exempt(0, 0));
+    case(c, 0xEEE4_3A10, 0, one(0, 0, 0))
 }
 
 // One register from r1 on, inside the window and outside.

@@ -1,5 +1,6 @@
-// Runs the watch: document 01's example, the mark rules word by word, random lists from two machines that differ in unknown places, and with two maps
+// Runs the watch: document 01's example, the mark rules word by word, words with the unit off, random lists from two machines that differ in unknown places, and with two maps
 // of which one knows more.
+mod enable;
 mod exact;
 mod more;
 mod pairs;
@@ -58,6 +59,16 @@ fn by_rules() {
     text(b" differ\n");
 }
 
+fn disabled() {
+    let t = enable::off_cases();
+    number(t.words);
+    text(b" words with FPEXC bit 30 clear, ");
+    number(t.maps);
+    text(b" maps, ");
+    number(t.differ);
+    text(b" differ\n");
+}
+
 fn named(name: &[u8], x: u64) {
     text(name);
     number(x);
@@ -88,6 +99,7 @@ fn raised() {
 fn main() {
     example();
     by_rules();
+    disabled();
     random();
     raised();
 }

@@ -120,6 +120,14 @@ fn flags(x: u64) -> Psr {
     }
 }
 
+// Any bits, mostly with the unit enabled.
+fn enable(x: u64) -> u32 {
+    if x % 8 == 0 {
+        return high(x);
+    }
+    high(x) | 0x4000_0000
+}
+
 pub fn side(seed: u64) -> Side {
     let s = singles(stream(seed, 0x11));
     let r = cores(stream(seed, 0x2200));
@@ -128,7 +136,7 @@ pub fn side(seed: u64) -> Side {
         s,
         r,
         fpscr: high(stream(seed, 0x33_0000)) & 0xF1F7_0000,
-        fpexc: high(stream(seed, 0x4400_0000)),
+        fpexc: enable(stream(seed, 0x4400_0000)),
         cpsr,
         thumb: false,
     };

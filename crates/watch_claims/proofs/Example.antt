@@ -16,7 +16,7 @@ use Rattle.decoding.specs.Operation.{extensionBy, arithmetics, operationBy, ope
 use Rattle.short_vectors.specs.Vector.{stepOf, secondOf}
 use Rattle.limits.specs.Marks.{bitsOnly}
 use Rattle.limits.specs.Limit.{windowLimit, runLimit, watchLimit}
-use Rattle.run_word.specs.Word.{classTree, conditioned, meaning}
+use Rattle.run_word.specs.Word.{classTree, exempt, enabled, conditioned, meaning}
 use Rattle.transfers.specs.Transfer.{transferTree}
 use Rattle.watch.specs.Watch.{Reply, watchReply}
 
@@ -40,5 +40,5 @@ pub record Claim : Type 0 where
   pub marks : answer .map ≡ allBut (0 ∷ 48 ∷ 51 ∷ [])
 
 pub claim : Claim
-unfolding watchReply watchLimit bitsOnly runLimit windowLimit R.watch R.followWith watched meaning classTree conditioned dataTree operationTree operationOf operationBy extensionBy arithmetics transferTree after afterMarks stepOf secondOf place
+unfolding exempt enabled watchReply watchLimit bitsOnly runLimit windowLimit R.watch R.followWith watched meaning classTree conditioned dataTree operationTree operationOf operationBy extensionBy arithmetics transferTree after afterMarks stepOf secondOf place
 claim = record { stops = refl; counts = refl; marks = refl }

@@ -2,3 +2,4 @@
 
 pub mod Example
 pub mod Exact
+pub mod Enabling

@@ -1,3 +1,4 @@
 -- Laws of the crate's proofs.
 
 mod Worded
+mod Enables

@@ -1,2 +1,3 @@
 // One watched word.
+pub mod enable;
 pub mod word;

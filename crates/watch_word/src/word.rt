@@ -12,8 +12,10 @@ ghost use Rattle.decoding.specs.Table.{operationTable};
 ghost use Rattle.processing.specs.Data.{dataTree};
 ghost use Rattle.memory.specs.LoadStore.{loadStoreTree};
 ghost use Rattle.transfers.specs.Transfer.{transferTree};
-ghost use Rattle.run_word.specs.Word.{classTree, meaning};
+ghost use Rattle.run_word.specs.Word.{classTree, enabled, meaning};
 ghost use Rattle.run_word.specs.Stop.{nextOf};
+use super::enable::Enable;
+use super::enable::enable_of;
 use access_marks::mark_load_store;
 use bits::field::bit;
 use bits::field::bits;
@@ -85,10 +87,44 @@ pub fn watch_word(
             };
         }
     }
-    watch_class(table, s, r, x, window, marks, window_marks, base, op)
+    watch_enabled(table, s, r, x, window, marks, window_marks, base, op)
 }
 
-// A word whose condition holds, by its class.
+// A word whose condition holds, if the unit is enabled for it.
+fn watch_enabled(
+    table: &[u8; 1024],
+    s: &mut [u32; 32],
+    r: &mut [u32; 16],
+    x: Controls,
+    window: &mut [u32],
+    marks: u64,
+    window_marks: &mut [u8],
+    base: u32,
+    op: u32,
+) -> Seen
+    requires { ⌜ now table ≡ operationTable ⌝ }
+    ensures { λ e. ⌜ seen (state (assembled (now (s .exit)) (now (r .exit)) (e .controls) false) (now (window .exit))) (mapIn (e .marks) (now («window_marks» .exit))) (nextOf (e .next)) ≡ watched (enabled op (classTree base op)) (state (assembled (now (s .entry)) (now (r .entry)) x false) (now (window .entry))) (mapIn marks (now («window_marks» .entry))) ⌝ }
+{
+    let enable = enable_of(marks, x.fpexc, op);
+    match enable {
+        Enable::On => watch_class(table, s, r, x, window, marks, window_marks, base, op),
+        Enable::Off => {
+            let pc = current_pc(r[15], false);
+            Seen {
+                controls: x,
+                marks,
+                next: Next::Halt(Stop::Undefined { pc, opcode: op }),
+            }
+        }
+        Enable::Hangs(place) => Seen {
+            controls: x,
+            marks,
+            next: Next::Halt(Stop::Hangs(place)),
+        },
+    }
+}
+
+// A word of an enabled unit, by its class.
 fn watch_class(
     table: &[u8; 1024],
     s: &mut [u32; 32],

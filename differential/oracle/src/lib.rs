@@ -198,6 +198,11 @@ pub fn run(cpu: &mut Cpu, call: Call, thumb: bool, word: u32, base: u32, state: 
     }
 }
 
+/// whether FPEXC bit 30 makes a word of a run Undefined (document 02, 2026-05; the Rust has no such test): transfers of system registers 0 and 8 run.
+pub fn off(word: u32, fpexc: u32) -> bool {
+    fpexc >> 30 & 1 == 0 && word & 0x0FE7_0010 != 0x0EE0_0010
+}
+
 /// The run over a list by document 01's rules, each word by the Rust's own call, with canonical NaNs: the kind, and what the answer has.
 pub fn listed(cpu: &mut Cpu, list: &[u32], base: u32, thumb: bool, state: &mut [u32; STATE], window: &mut [u32]) -> (u32, [u32; 4]) {
     let refused = if list.len() > 4096 { 1 } else { refusal(base, window.len()) };
@@ -215,6 +220,9 @@ pub fn listed(cpu: &mut Cpu, list: &[u32], base: u32, thumb: bool, state: &mut [
             return (1, [count, 0, 0, 0]);
         }
         if condition(word >> 28, state[51]) {
+            if off(word, state[50]) {
+                return (2, [count, 0, state[47].wrapping_sub(8), word]);
+            }
             let call = match (load_store, word >> 4 & 1) {
                 (true, _) => Call::LoadStore,
                 (false, 1) => Call::Wrapper,
@@ -246,6 +254,9 @@ pub fn run_list(cpu: &mut Cpu, window: &mut [u32], base: u32, list: &[u32]) -> [
             return [count, 0, 0, 0];
         }
         if check_condition(word >> 28, &cpu.cpsr) {
+            if off(word, cpu.vfp.fpexc) {
+                return [count, 0, cpu.regs[15].wrapping_sub(8), word];
+            }
             let exit = match (load_store, word >> 4 & 1) {
                 (true, _) => vfp::coprocessor_load_store(cpu, &mut bus, word),
                 (false, 1) => vfp::coprocessor_register(cpu, word),

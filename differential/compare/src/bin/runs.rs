@@ -35,7 +35,7 @@ fn any_word(r: &mut Random, turn: u64) -> u32 {
 }
 
 /// a list of 4,096 or 4,097 mixed words that runs to its end from this state and window, as far as that can be told: a word that stops the run so
-/// far gives way to one that changes nothing.
+/// far, or switches the unit off, gives way to one that changes nothing.
 fn long(r: &mut Random, cpu: &mut Cpu, length: u32, base: u32, state: &[u32; STATE], window: &[u32], turn: &mut u64) -> Vec<u32> {
     let (mut s, mut w) = (*state, window.to_vec());
     (0..length)
@@ -44,7 +44,7 @@ fn long(r: &mut Random, cpu: &mut Cpu, length: u32, base: u32, state: &[u32; STA
             let any = word(r, *turn);
             let (mut t, mut v) = (s, w.clone());
             let (kind, _) = oracle::listed(cpu, &[any], base, false, &mut t, &mut v);
-            if kind != 0 {
+            if kind != 0 || t[50] >> 30 & 1 == 0 {
                 return 0xEEB0_0A40;
             }
             (s, w) = (t, v);
@@ -71,9 +71,12 @@ fn main() {
         if number == 0 || r.once_in(2) {
             base = cases::window(&mut r, &mut window);
             cases::machine(&mut r, &mut state, base, window.len());
+            // mostly with the unit enabled
+            state[50] |= if r.once_in(8) { 0 } else { 1 << 30 };
         }
         let length = if r.once_in(20_000) { 4096 + r.below(2) } else { r.below(16) };
         if length > 4095 {
+            state[50] |= 1 << 30;
             list = long(&mut r, &mut cpu, length, base, &state, &window, &mut turn);
         } else {
             list.clear();

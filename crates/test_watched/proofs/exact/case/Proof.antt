@@ -4,10 +4,10 @@ use Rattle.test_watched.proofs.exact.case.Statement.{statement}
 use Rattle.test_watched.proofs.exact.case.Tie as tie
 
 abbrev Inv-loop : tie.InvT-loop
-Inv-loop word fpscr r u₀ p₀ u p = p ≤ 64
+Inv-loop word fpscr r asks u₀ p₀ u p = p ≤ 64
 
 abbrev μ-loop : tie.MeasureT-loop
-μ-loop word fpscr r u₀ p₀ u p = 64 - p
+μ-loop word fpscr r asks u₀ p₀ u p = 64 - p
 
 -- src/exact.rt:105:9
 tried-requires : tie.Need-tried-requires Inv-loop μ-loop

@@ -1,0 +1,2 @@
+-- What one watched word promises.
+pub mod Enable
