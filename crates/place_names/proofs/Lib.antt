@@ -1,4 +1,4 @@
--- Laws of names, and what is printed read back.
+-- Laws of names, and what is printed of a place read back.
 
 pub mod Names
 pub mod Back
