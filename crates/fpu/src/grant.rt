@@ -1,21 +1,7 @@
 // The words of a period, granted to routines.
-ghost use mathlib.Core.Path.{_≡_};
-ghost use Rattle.outcomes.specs.Grant.{grantOutcome, grantResult};
+ghost use Rattle.outcomes.specs.Grant.{grantOutcome};
 ghost use Rattle.outcomes.specs.GrantPromise.{GrantPromise};
-use super::INVALID_ARGUMENT;
-
-// A refusal, 0 or the answer to lists of unequal lengths, as the result of a call.
-fn result(refusal: u8) -> u32
-    ensures { λ r. ⌜ r ≡ grantResult refusal ⌝ }
-{
-    if refusal == 0 {
-        return 0;
-    }
-    if refusal == grants::UNEQUAL {
-        return INVALID_ARGUMENT;
-    }
-    100 + refusal as u32
-}
+use super::result::of_refusal;
 
 // What each routine is granted of a period.
 #[no_mangle]
@@ -29,5 +15,5 @@ pub extern "C" fn fpu_grant(
     ensures { λ r. ⌜ GrantPromise period (now (shares .entry)) (now (limits .entry)) (now (left .entry)) (now (grants .entry)) (grantOutcome r (now (grants .exit))) ⌝ }
 {
     let refusal = grants::grant(period, shares, limits, left, grants);
-    result(refusal)
+    of_refusal(refusal)
 }

@@ -1,6 +1,7 @@
 // The C interface: a machine is a state of 52 words, places 0 to 51 in order. include/fpu.h says what callers have to know.
 pub mod grant;
 pub mod operation;
+mod result;
 
 ghost use mathlib.Core.Path.{_≡_};
 ghost use mathlib.Core.List.{List, []};

@@ -4,10 +4,11 @@ use mathlib.Core.Path.{_≡_, _∙_, ap}
 use mathlib.Core.List.{List}
 use Rattle.grants.specs.Grant.{reply}
 use Rattle.grants.specs.Promise.{Promise}
-use Rattle.outcomes.specs.Grant.{grantOutcome, grantResult, reportedGrant}
+use Rattle.outcomes.specs.Outcome.{resultOf}
+use Rattle.outcomes.specs.Grant.{grantOutcome, reportedGrant}
 use Rattle.outcomes.specs.GrantPromise.{GrantPromise}
 
-pub granting : (period : ℕ) (shares limits left grants t : List ℕ) (n r : ℕ) → r ≡ grantResult n → Promise period shares limits left grants (reply n t)
+pub granting : (period : ℕ) (shares limits left grants t : List ℕ) (n r : ℕ) → r ≡ resultOf n → Promise period shares limits left grants (reply n t)
     → GrantPromise period shares limits left grants (grantOutcome r t)
 granting period shares limits left grants t n r e p =
     let q : grantOutcome r t ≡ reportedGrant (reply n t) = rw e in

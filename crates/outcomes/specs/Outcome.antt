@@ -1,5 +1,5 @@
 -- The outcome of an exported function: its result, and each lent buffer.
-use Prim.Native.Nat.{ℕ, _/_, _%_, _^_}
+use Prim.Native.Nat.{ℕ, _+_, _/_, _%_, _^_}
 use mathlib.Core.Bool.{Bool, cond, _&&_}
 use mathlib.Core.List.{List, []}
 use lib.Dec.{eqb, ltb}
@@ -28,6 +28,10 @@ reported count y = outcome (y .report .kind) (encode (y .leaves .machine)) (y .l
 -- the result where an argument is invalid; it is tested first
 abbrev pub invalidArgument : ℕ
 invalidArgument = 255
+
+-- the result of a call that answers with a refusal's number: 0 for none, the number of an invalid argument as it is, 100 + n for refusal n
+unfoldable pub resultOf : ℕ → ℕ
+resultOf n = cond (eqb n 0) 0 (cond (eqb n invalidArgument) invalidArgument (100 + n))
 
 -- whether a state, a thumb and an answer of so many words are valid
 unfoldable pub validCall : List ℕ → ℕ → ℕ → Bool

@@ -8,14 +8,14 @@ use Rattle.fpu.proofs.grant.fpu_grant.Tie as tie
 grant-requires : tie.Need-grant-requires
 grant-requires c κs = search needs
 
-result-requires : tie.Need-result-requires
-result-requires c κs = search needs
+of-refusal-requires : tie.Need-of-refusal-requires
+of-refusal-requires c κs = search needs
 
 same-length : tie.Need-same-length
 same-length c = search needs
 
 returns : tie.Need-returns
-returns c = granting (c .before .before .before .before .before .before .before .before .before .args .period) (now (c .before .before .before .before .before .before .before .before .before .args .shares)) (now (c .before .before .before .before .before .before .before .before .before .args .limits)) (now (c .before .before .before .before .before .before .before .before .before .args .left)) (now (c .before .before .before .before .before .before .before .before .before .args .grants)) (c .before .before .before .grant .last .1 .1 .1 .1 .0) (c .before .before .before .grant .result) (c .result .result) (c .result .ensures) (c .before .before .before .grant .ensures)
+returns c = granting (c .before .before .before .before .before .before .before .before .before .args .period) (now (c .before .before .before .before .before .before .before .before .before .args .shares)) (now (c .before .before .before .before .before .before .before .before .before .args .limits)) (now (c .before .before .before .before .before .before .before .before .before .args .left)) (now (c .before .before .before .before .before .before .before .before .before .args .grants)) (c .before .before .before .grant .last .1 .1 .1 .1 .0) (c .before .before .before .grant .result) (c .of-refusal .result) (c .of-refusal .ensures) (c .before .before .before .grant .ensures)
 
 pub fpu-grant-spec : {M : Type 1} → statement M
-fpu-grant-spec = tie.close (tie.spec grant-requires result-requires same-length returns)
+fpu-grant-spec = tie.close (tie.spec grant-requires of-refusal-requires same-length returns)
