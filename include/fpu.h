@@ -21,6 +21,9 @@ extern "C" {
 #define FPU_LIST_MOST_WORDS 4096
 #define FPU_MOST_ROUTINES 8
 
+/* The length of a register sheet, in bytes: 16 lines of 40 characters and a line feed. */
+#define FPU_SHEET_BYTES 656
+
 /* A state's words: s0 to s31, r0 to r15, and then these. A bit outside a place's own has to be 0. */
 #define FPU_PLACE_S0 0
 #define FPU_PLACE_R0 32
@@ -53,6 +56,7 @@ extern "C" {
 #define FPU_REFUSED_THUMB 105            /* of runs only: thumb is 1 */
 #define FPU_REFUSED_WINDOW_MARKS 106     /* of the watched run only: not as many window marks as window words */
 #define FPU_REFUSED_WINDOW_MARK 107      /* of the watched run only: a window mark that is neither 0 nor 1 */
+#define FPU_REFUSED_PAGE 108             /* of fpu_sheet only: a page of fewer than 656 bytes */
 #define FPU_REFUSED_ROUTINES 114         /* of fpu_grant only: no routine or more than eight */
 #define FPU_REFUSED_SHARE 115            /* of fpu_grant only: a share above its limit */
 #define FPU_REFUSED_SHARES 116           /* of fpu_grant only: shares that add up to more than the period */
@@ -127,6 +131,17 @@ uint32_t fpu_check_condition(uint32_t condition, uint32_t nzcv);
 /* The operation of a data-processing word, by its bits 23:20, 19:16, 7 and 6 alone: FPU_OPERATION_UNDEFINED, or one of the 24. Whether the word is data
  * processing at all, and of coprocessor 10 or 11, is not looked at. */
 uint32_t fpu_operation(uint32_t word);
+
+/* Lays the doubles of a state out on a page: 16 lines of 40 characters and a line feed, d0 first and d15 last. A line has the double's number in
+ * two decimal digits, its high and its low word in eight upper-case hexadecimal digits each, K or U for each half, high first, as its bit of
+ * `marks` says that it is known or unknown, and 17 spaces:
+ *
+ *     01 3FF00000 00000000 KU
+ *
+ * A word is shown as it stands, known or unknown. Equal sheets mean equal words and marks of s0 to s31. The first FPU_SHEET_BYTES bytes of the
+ * page are written and no others. Gives FPU_FINISHED, FPU_INVALID_ARGUMENT for the state alone, or FPU_REFUSED_PAGE; under these two the page is
+ * as it came. */
+uint32_t fpu_sheet(const uint32_t *state, size_t state_words, uint64_t marks, uint8_t *page, size_t page_bytes);
 
 /* Grants the words of a period to routines, each of a share, a limit and a number of words left: first to each the smaller of its share and its
  * words left, then what remains of the period in order from the first, round and round, one word at a time, to those under their limit with words

@@ -445,12 +445,78 @@ static void grants(void)
     }
 }
 
+/* The sheet of a state in which every half has a word of its own, on a page of so many bytes; the page has some more that a call must not touch. */
+static void sheet(const char *name, uint64_t marks, size_t bytes)
+{
+    uint32_t state[FPU_STATE_WORDS], kept[FPU_STATE_WORDS];
+    uint8_t page[FPU_SHEET_BYTES + 8], expected[FPU_SHEET_BYTES + 8];
+    doing = name;
+    fpu_new(state, FPU_STATE_WORDS);
+    for (uint32_t n = 0; n < 32; n++)
+        state[n] = n * 0x11111111 ^ 0x89ABCDEF;
+    memcpy(kept, state, sizeof kept);
+    memset(page, 0xA5, sizeof page);
+    memset(expected, 0xA5, sizeof expected);
+    for (int d = 0; bytes >= FPU_SHEET_BYTES && d < 16; d++) {
+        char line[64];
+        snprintf(line, sizeof line, "%02d %08X %08X %c%c%17s\n", d, (unsigned)state[2 * d + 1], (unsigned)state[2 * d],
+                 marks & FPU_MARK(2 * d + 1) ? 'K' : 'U', marks & FPU_MARK(2 * d) ? 'K' : 'U', "");
+        memcpy(expected + 41 * d, line, 41);
+    }
+    result(fpu_sheet(state, FPU_STATE_WORDS, marks, page, bytes), bytes < FPU_SHEET_BYTES ? FPU_REFUSED_PAGE : FPU_FINISHED);
+    same_bytes("the page", page, expected, sizeof page);
+    same_bytes("the state", state, kept, sizeof state);
+}
+
+static void sheets(void)
+{
+    static const size_t lengths[] = {0, 1, 41, 655, 656, 657, 664};
+    for (size_t i = 0; i < sizeof lengths / sizeof *lengths; i++) {
+        sheet("a sheet of known words", FPU_MARKS_ALL, lengths[i]);
+        sheet("a sheet of unknown words", 0, lengths[i]);
+    }
+    for (int place = 0; place < 64; place++) {
+        sheet("a sheet of which one place is known", FPU_MARK(place), 656);
+        sheet("a sheet of which one place is unknown", ~FPU_MARK(place), 657);
+    }
+
+    /* the first and the last line as they are printed */
+    uint8_t page[FPU_SHEET_BYTES];
+    fresh("the lines of d0 and d15");
+    p.state[0] = 0x12345678;
+    p.state[1] = 0x9ABCDEF0;
+    p.state[30] = 0xDEADBEEF;
+    p.state[31] = 0x00000001;
+    result(fpu_sheet(p.state, FPU_STATE_WORDS, FPU_MARKS_ALL ^ FPU_MARK(0) ^ FPU_MARK(31), page, sizeof page), FPU_FINISHED);
+    same_bytes("d0", page, "00 9ABCDEF0 12345678 KU                 \n", 41);
+    same_bytes("d15", page + 615, "15 00000001 DEADBEEF UK                 \n", 41);
+
+    /* an invalid state comes before a short page */
+    for (int sort = 0; sort < 10; sort++) {
+        uint8_t kept[FPU_SHEET_BYTES];
+        fresh("a sheet of an invalid state");
+        memset(page, 0xA5, sizeof page);
+        memset(kept, 0xA5, sizeof kept);
+        switch (sort % 5) {
+        case 0: p.state_words--; break;
+        case 1: p.state_words++; break;
+        case 2: p.state[FPU_PLACE_FPSCR_FLAGS] = 0x08000000; break;
+        case 3: p.state[FPU_PLACE_FPSCR_CONTROL] = 0x10000000; break;
+        default: p.state[FPU_PLACE_NZCV] = 0x00000001; break;
+        }
+        given = p;
+        result(fpu_sheet(p.state, p.state_words, FPU_MARKS_ALL, page, sort < 5 ? FPU_SHEET_BYTES : 655), FPU_INVALID_ARGUMENT);
+        same_bytes("the page", page, kept, sizeof page);
+        unchanged();
+    }
+}
+
 int main(void)
 {
     static const uint32_t every[] = {FPU_FINISHED, FPU_FOREIGN, FPU_UNDEFINED, FPU_BRANCHED, FPU_HANGS, FPU_REFUSED_LIST_LONG,
                                      FPU_REFUSED_WINDOW_LONG, FPU_REFUSED_BASE_ALIGNMENT, FPU_REFUSED_WINDOW_END, FPU_REFUSED_THUMB,
-                                     FPU_REFUSED_WINDOW_MARKS, FPU_REFUSED_WINDOW_MARK, FPU_REFUSED_ROUTINES, FPU_REFUSED_SHARE, FPU_REFUSED_SHARES,
-                                     FPU_INVALID_ARGUMENT};
+                                     FPU_REFUSED_WINDOW_MARKS, FPU_REFUSED_WINDOW_MARK, FPU_REFUSED_PAGE, FPU_REFUSED_ROUTINES, FPU_REFUSED_SHARE,
+                                     FPU_REFUSED_SHARES, FPU_INVALID_ARGUMENT};
     new_machine();
     single_calls();
     runs();
@@ -458,6 +524,7 @@ int main(void)
     invalid_arguments();
     conditions();
     operations();
+    sheets();
     grants();
     doing = "every result is seen";
     for (size_t i = 0; i < sizeof every / sizeof *every; i++)

@@ -6,6 +6,8 @@ pub const STATE_WORDS: usize = 52;
 /// the marks of a machine of which every place is known: bit p is that of place p.
 pub const MARKS_ALL: u64 = (1 << STATE_WORDS) - 1;
 pub const ANSWER_WORDS: usize = 4;
+/// the bytes of a register sheet: 16 lines of 40 characters and a line feed.
+pub const SHEET_BYTES: usize = 656;
 
 extern "C" {
     fn fpu_new(state: *mut u32, state_words: usize) -> c_uint;
@@ -51,6 +53,7 @@ extern "C" {
     ) -> c_uint;
     fn fpu_check_condition(condition: u32, nzcv: u32) -> c_uint;
     fn fpu_operation(word: u32) -> c_uint;
+    fn fpu_sheet(state: *const u32, state_words: usize, marks: u64, page: *mut u8, page_bytes: usize) -> c_uint;
     fn fpu_grant(
         period: u32,
         shares: *const u32,
@@ -147,6 +150,10 @@ pub mod raw {
 
     pub fn operation(word: u32) -> u32 {
         unsafe { super::fpu_operation(word) }
+    }
+
+    pub fn sheet(state: &[u32], marks: u64, page: &mut [u8]) -> u32 {
+        unsafe { super::fpu_sheet(state.as_ptr(), state.len(), marks, page.as_mut_ptr(), page.len()) }
     }
 
     pub fn grant(period: u32, shares: &[u32], limits: &[u32], left: &[u32], grants: &mut [u32]) -> u32 {
@@ -282,6 +289,16 @@ impl Machine {
         match raw::check_condition(condition, self.state[51]) {
             255 => Err(InvalidArgument),
             held => Ok(held == 1),
+        }
+    }
+
+    /// the register sheet: a line for each double with its number, its high and low word, and K or U for each, by its bit of marks.
+    pub fn sheet(&self, marks: u64) -> Result<[u8; SHEET_BYTES], InvalidArgument> {
+        let mut page = [0; SHEET_BYTES];
+        match raw::sheet(&self.state, marks, &mut page) {
+            0 => Ok(page),
+            255 => Err(InvalidArgument),
+            refused => unreachable!("result {refused}"),
         }
     }
 }

@@ -1,6 +1,8 @@
 //! A few calls by the wrapper, and what 255 does.
 
-use fpu::{grant, operation, raw, Exit, InvalidArgument, Machine, Operation, Ran, Routine, Stop, TurnedAway, MARKS_ALL, OPERATIONS};
+use fpu::{
+    grant, operation, raw, Exit, InvalidArgument, Machine, Operation, Ran, Routine, Stop, TurnedAway, MARKS_ALL, OPERATIONS, SHEET_BYTES,
+};
 
 #[test]
 fn a_new_machine() {
@@ -133,6 +135,46 @@ fn a_watched_run() {
     assert_eq!(m.watch(&mut marks, &mut [5], &mut [], 0, &LIST), Ok(Ran { stop: Stop::Refused(6), count: 0 }));
     assert_eq!(m.watch(&mut marks, &mut [5], &mut [2], 0, &LIST), Ok(Ran { stop: Stop::Refused(7), count: 0 }));
     assert_eq!((m, marks), (before, kept));
+}
+
+#[test]
+fn a_sheet() {
+    let mut m = Machine::new();
+    (m.state[0], m.state[1]) = (0x1234_5678, 0x9ABC_DEF0);
+    (m.state[30], m.state[31]) = (0xDEAD_BEEF, 1);
+    let printed = |marks| String::from_utf8(m.sheet(marks).unwrap().to_vec()).unwrap();
+    let lines = |d0: &str, others: &str, d15: &str| -> String {
+        (0..16)
+            .map(|d| match d {
+                0 => format!("00 9ABCDEF0 12345678 {d0:<19}\n"),
+                15 => format!("15 00000001 DEADBEEF {d15:<19}\n"),
+                _ => format!("{d:02} 00000000 00000000 {others:<19}\n"),
+            })
+            .collect()
+    };
+    assert_eq!(printed(MARKS_ALL), lines("KK", "KK", "KK"));
+    assert_eq!(printed(!MARKS_ALL | 0xFFFF << 32), lines("UU", "UU", "UU"));
+    assert_eq!(printed(1 << 1 | 1 << 30), lines("KU", "UU", "UK"));
+    m.state[51] = 1;
+    assert_eq!(m.sheet(MARKS_ALL), Err(InvalidArgument));
+}
+
+#[test]
+fn pages_of_a_sheet() {
+    let state = Machine::new().state;
+    let sheet = Machine::new().sheet(MARKS_ALL).unwrap();
+    for bytes in [0, 655, 656, 657] {
+        let mut page = [0xA5; SHEET_BYTES + 2];
+        let result = raw::sheet(&state, MARKS_ALL, &mut page[..bytes]);
+        if bytes < SHEET_BYTES {
+            assert_eq!((result, page), (108, [0xA5; SHEET_BYTES + 2]));
+        } else {
+            assert_eq!((result, &page[..SHEET_BYTES], &page[SHEET_BYTES..]), (0, &sheet[..], &[0xA5; 2][..]));
+        }
+        page = [0xA5; SHEET_BYTES + 2];
+        assert_eq!(raw::sheet(&state[..51], MARKS_ALL, &mut page[..bytes]), 255);
+        assert_eq!(page, [0xA5; SHEET_BYTES + 2]);
+    }
 }
 
 #[test]

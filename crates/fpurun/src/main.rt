@@ -1,7 +1,7 @@
-// Runs a list of instruction words under the watch, and tells where the run stops, what it hangs on and what is known then; with --list, lists
-// the words with their addresses in the manual's spelling instead.
+// Runs a list of instruction words under the watch, and tells where the run stops, what it hangs on and what is known then; with --sheet it
+// also prints the register sheet as it is then; with --list it lists the words with their addresses in the manual's spelling instead.
 //
-// It reads the file that its argument names, or standard input, one item a line:
+// It reads the file that its last argument names, or standard input, one item a line:
 //
 //     EE300A00              an instruction word, eight hexadecimal digits
 //     set PLACE VALUE       what a place holds at power-up, 1 to 8 hexadecimal digits, 0x before them or not
@@ -70,7 +70,16 @@ fn carry_out(
     list: [u32; 4096],
 ) {
     match mode {
-        Mode::Run => run_list(layout, state, marks, window, window_marks, list),
+        Mode::Run => run_list(layout, state, marks, window, window_marks, list, Mode::Run),
+        Mode::Sheet => run_list(
+            layout,
+            state,
+            marks,
+            window,
+            window_marks,
+            list,
+            Mode::Sheet,
+        ),
         Mode::List => list_words(layout, state, marks, list),
     }
 }
@@ -91,6 +100,7 @@ fn run_list(
     window: [u32; 16384],
     window_marks: [u8; 16384],
     list: [u32; 4096],
+    mode: Mode,
 ) {
     let words = layout.words;
     let count = layout.count;
@@ -115,6 +125,7 @@ fn run_list(
         marks,
         &window[..words],
         &window_marks[..words],
+        mode,
     );
 }
 
@@ -130,6 +141,7 @@ fn run_parts(
     marks: u64,
     window: &[u32],
     window_marks: &[u8],
+    mode: Mode,
 ) {
     let mut answer = [0u32; 4];
     let kind = fpu::fpu_watch(s, m, w, v, base, 0, list, &mut answer);
@@ -137,6 +149,9 @@ fn run_parts(
     outcome::stop(kind, answer, list, s, after);
     outcome::unknown(after, v);
     outcome::changed(state, marks, window, window_marks, s, after, w, v);
+    if let Mode::Sheet = mode {
+        outcome::sheet(s, after);
+    }
 }
 
 // Room for a text.
@@ -186,7 +201,7 @@ fn take_argument(mode: Mode, argument: usize) {
         return;
     }
     if argument + 1 < given {
-        io::write_all(STDOUT_FILENO, b"usage: fpurun [--list] [FILE]\n");
+        io::write_all(STDOUT_FILENO, b"usage: fpurun [--list | --sheet] [FILE]\n");
         return;
     }
     take_file(mode, argument);
@@ -199,6 +214,7 @@ fn main() {
     let mode = mode_of(&word[..n]);
     match mode {
         Mode::Run => take_argument(Mode::Run, 1),
+        Mode::Sheet => take_argument(Mode::Sheet, 2),
         Mode::List => take_argument(Mode::List, 2),
     }
 }

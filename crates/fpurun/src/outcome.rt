@@ -1,5 +1,5 @@
-// Writes what came of a run: the stop, the places that are unknown, and what changed. What each line says is a definition of crates `report`
-// and `place_lines`.
+// Writes what came of a run: the stop, the places that are unknown, what changed, and the register sheet. What each line says is a definition of
+// crates `report`, `place_lines` and `sheet`.
 use super::output::print;
 use super::words;
 use libc::STDOUT_FILENO;
@@ -8,6 +8,7 @@ use place_lines::place;
 use place_values::place::next_change;
 use place_values::place::next_unknown;
 use report::line;
+use sheet::SHEET_BYTES;
 
 fn text(b: &[u8]) {
     io::write_all(STDOUT_FILENO, b);
@@ -62,4 +63,12 @@ pub fn changed(
         text(b" none");
     }
     text(b"\n");
+}
+
+pub fn sheet(state: &[u32], marks: u64) {
+    let mut page = [0u8; SHEET_BYTES];
+    if fpu::register_sheet::fpu_sheet(state, marks, &mut page) == 0 {
+        text(b"sheet:\n");
+        text(&page);
+    }
 }

@@ -9,3 +9,4 @@ pub mod NonInterference
 pub mod More
 pub mod Watches
 pub mod Grants
+pub mod Sheets

@@ -6,3 +6,4 @@ pub mod More
 pub mod WatchPromise
 pub mod Grant
 pub mod GrantPromise
+pub mod Sheet
