@@ -161,7 +161,17 @@ fn memory(r: &mut Random, out: &mut Vec<Mix>) {
     out.push(Mix { name: "VLDR", list: list(|_| 0xED91_0A00 | d(false, r.below(32)) | r.below(256)), state });
 }
 
-pub fn mixes() -> Vec<Mix> {
+/// FPSCR of RunFast: FZ and default NaN.
+pub const RUN_FAST: u32 = 0x0300_0000;
+
+/// The lists, with more bits of FPSCR set.
+pub fn mixes_under(control: u32) -> Vec<Mix> {
+    let mut out = mixes();
+    out.iter_mut().for_each(|mix| mix.state[49] |= control);
+    out
+}
+
+fn mixes() -> Vec<Mix> {
     let mut r = Random(9);
     let mut out = Vec::new();
     scalars(&mut r, &mut out);

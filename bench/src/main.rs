@@ -4,7 +4,7 @@
 mod lists;
 
 use fpu::raw;
-use lists::{Mix, BASE, UNKNOWN, WINDOW};
+use lists::{Mix, BASE, RUN_FAST, UNKNOWN, WINDOW};
 use oracle::Cpu;
 use std::hint::black_box;
 use std::time::Instant;
@@ -74,11 +74,11 @@ fn worst(ratios: &[f64]) -> f64 {
     ratios.iter().copied().fold(0.0, f64::max)
 }
 
-fn table(rounds: usize) {
-    println!("| list of 4,096 words | Rust, ns a word | run | run / Rust | watch | watch / run |");
+fn table(rounds: usize, lists: &str, control: u32) {
+    println!("| {lists} | Rust, ns a word | run | run / Rust | watch | watch / run |");
     println!("|---|---|---|---|---|---|");
     let (mut plain, mut watched) = (Vec::new(), Vec::new());
-    for mix in lists::mixes() {
+    for mix in lists::mixes_under(control) {
         let t = measure(&mix, rounds);
         plain.push(t.run / t.rust);
         watched.push(t.watch / t.run);
@@ -133,9 +133,9 @@ fn growth(rounds: usize) {
     }
 }
 
-/// runs one mix once and nothing else, for bench/count: bench of MIX rust|run|watch. `bench names` lists the mixes.
-fn only(number: usize, way: &str) {
-    let mixes = lists::mixes();
+/// runs one mix once and nothing else, for bench/count: bench of MIX rust|run|watch [fast]. `bench names` lists the mixes.
+fn only(number: usize, way: &str, control: u32) {
+    let mixes = lists::mixes_under(control);
     let mix = &mixes[number];
     let (mut window, mut window_marks, mut marks, mut state, mut answer) = (vec![0x3F80_0000; WINDOW], vec![1u8; WINDOW], marks(), mix.state, [0; 4]);
     match way {
@@ -156,15 +156,17 @@ fn only(number: usize, way: &str) {
 
 fn main() {
     let words: Vec<String> = std::env::args().skip(1).collect();
-    if let [of, number, way] = &words[..] {
+    if let [of, number, way, rest @ ..] = &words[..] {
         if of == "of" {
-            return only(number.parse().expect("a mix's number"), way);
+            return only(number.parse().expect("a mix's number"), way, if rest.is_empty() { 0 } else { RUN_FAST });
         }
     }
     if words.first().is_some_and(|w| w == "names") {
-        return lists::mixes().iter().for_each(|mix| println!("{}", mix.name));
+        return lists::mixes_under(0).iter().for_each(|mix| println!("{}", mix.name));
     }
     let rounds = words.first().map_or(100, |w| w.parse().expect("a number of rounds"));
-    table(rounds);
+    table(rounds, "list of 4,096 words", 0);
+    println!();
+    table(rounds, "RunFast, FPSCR 03000000", RUN_FAST);
     growth(rounds);
 }
