@@ -1,4 +1,4 @@
 -- Laws of the crate's proofs, over the precision.
 
-mod Steps
-mod Done
+pub mod Steps
+pub mod Done

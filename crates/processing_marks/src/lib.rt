@@ -1,5 +1,5 @@
 // The marks of data processing: the watched run's half beside crate processing.
-mod vector;
+pub mod vector;
 mod word;
 
 ghost use mathlib.Core.Path.{_≡_};

@@ -18,7 +18,7 @@ use place_marks::registers::single_known;
 use short_vectors::vector::Vector;
 
 // Arithmetic: the target is known when every word read is; old d is read by an accumulate alone.
-fn arithmetic_single(marks: u64, kind: Arithmetic, d: Single, n: Single, m: Single) -> u64
+pub fn mark_sum_single(marks: u64, kind: Arithmetic, d: Single, n: Single, m: Single) -> u64
     ensures { λ y. ⌜ ((control : ℕ) → MarksStepped (arithmeticStep binary32 control kind (d .0) (n .0) (m .0)) marks y) ⌝ }
 {
     if reads_d(kind) {
@@ -29,7 +29,7 @@ fn arithmetic_single(marks: u64, kind: Arithmetic, d: Single, n: Single, m: Sing
     mark_single(marks, d, all)
 }
 
-fn arithmetic_double(marks: u64, kind: Arithmetic, d: Double, n: Double, m: Double) -> u64
+pub fn mark_sum_double(marks: u64, kind: Arithmetic, d: Double, n: Double, m: Double) -> u64
     ensures { λ y. ⌜ ((control : ℕ) → MarksStepped (arithmeticStep binary64 control kind (d .0) (n .0) (m .0)) marks y) ⌝ }
 {
     if reads_d(kind) {
@@ -59,7 +59,7 @@ pub(crate) fn arithmetic_singles(
     let mut mn = m.0;
     let mut i: usize = 0;
     loop {
-        done = arithmetic_single(done, kind, Single(dn), Single(nn), Single(mn));
+        done = mark_sum_single(done, kind, Single(dn), Single(nn), Single(mn));
         i += 1;
         if i >= count {
             return done;
@@ -89,7 +89,7 @@ pub(crate) fn arithmetic_doubles(
     let mut mn = m.0;
     let mut i: usize = 0;
     loop {
-        done = arithmetic_double(done, kind, Double(dn), Double(nn), Double(mn));
+        done = mark_sum_double(done, kind, Double(dn), Double(nn), Double(mn));
         i += 1;
         if i >= count {
             return done;

@@ -3,4 +3,4 @@
 pub mod Words
 pub mod Enables
 pub mod Classes
-mod Scalars
+pub mod Scalars

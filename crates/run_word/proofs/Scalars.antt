@@ -29,24 +29,26 @@ clear : (w : ℕ) → (field w 8 8 ≡ 1 → ⊥) → field w 8 8 ≡ 0
 clear w h = omega arith
 
 module _ (w n : ℕ) (o : Operation) (known : n ≡ numberOf (operationOf w)) (named : o ≡ operationNumbered n) where
-  the-operation : o ≡ operationOf w
+  pub the-operation : o ≡ operationOf w
   the-operation = named ∙ ap operationNumbered known ∙ numbered-number (operationOf w)
 
   pub is-unary : 10 ≤ n → 9 < numberOf o
   is-unary h = rw (the-operation) (omega (arith, known))
 
+  module _ (vfp : field w 9 11 ≡ 0b101) (b : Bool) (p : b ≡ bitOf w 8) where
+    pub double-tree : b ≡ true → (thumb : Bool) → dataTree thumb w ≡ namedTree binary64 w o thumb
+    double-tree e thumb = let one : field w 8 8 ≡ 1 = eqb-true _ 1 (sym p ∙ e) in data-double w thumb (field w 8 11) refl (joined w ∙ rw (vfp, one)) ∙ rw (the-operation)
+
+    pub single-tree : b ≡ false → (thumb : Bool) → dataTree thumb w ≡ namedTree binary32 w o thumb
+    single-tree e thumb =
+        let none : field w 8 8 ≡ 0 = clear w (eqb-false _ 1 (sym p ∙ e)) in data-single w thumb (field w 8 11) refl (joined w ∙ rw (vfp, none)) ∙ rw (the-operation)
+
   module _ (vfp : field w 9 11 ≡ 0b101) (b : Bool) (p : b ≡ bitOf w 8) (s : List ℕ) (fpscr : ℕ) (s′ : List ℕ) (after : ℕ) where
     pub as-double : b ≡ true → Handled (namedTree binary64 w o) w s fpscr s′ (Done after) → Handled (λ thumb. dataTree thumb w) w s fpscr s′ (Done after)
-    as-double e h =
-        let one : field w 8 8 ≡ 1 = eqb-true _ 1 (sym p ∙ e) in
-        handled-as (namedTree binary64 w o) (λ thumb. dataTree thumb w) w s fpscr s′ (Done after)
-        (λ thumb. data-double w thumb (field w 8 11) refl (joined w ∙ rw (vfp, one)) ∙ rw (the-operation)) h
+    as-double e h = handled-as (namedTree binary64 w o) (λ thumb. dataTree thumb w) w s fpscr s′ (Done after) (double-tree vfp b p e) h
 
     pub as-single : b ≡ false → Handled (namedTree binary32 w o) w s fpscr s′ (Done after) → Handled (λ thumb. dataTree thumb w) w s fpscr s′ (Done after)
-    as-single e h =
-        let none : field w 8 8 ≡ 0 = clear w (eqb-false _ 1 (sym p ∙ e)) in
-        handled-as (namedTree binary32 w o) (λ thumb. dataTree thumb w) w s fpscr s′ (Done after)
-        (λ thumb. data-single w thumb (field w 8 11) refl (joined w ∙ rw (vfp, none)) ∙ rw (the-operation)) h
+    as-single e h = handled-as (namedTree binary32 w o) (λ thumb. dataTree thumb w) w s fpscr s′ (Done after) (single-tree vfp b p e) h
 
 pub goes-on : (w : ℕ) (s r : List ℕ) (x : Controls) (s′ : List ℕ) (fpscr : ℕ) (e : Executed)
     → (e .controls ≡ record { fpscr = fpscr; fpexc = x .fpexc; cpsr = x .cpsr }) × (e .next ≡ On)

@@ -25,7 +25,7 @@ use Rattle.processing.specs.declared.Processed.the-variants.{Done}
 use Rattle.processing.proofs.Done.{dyadic-done}
 
 -- operations 1 to 9 are the arithmetic
-nine : (thumb : Bool) (f : Format) (w n : ℕ) → 0 < n → n < 10 → operationTree thumb f w (operationNumbered n) ≡ dyadic f w (arithmeticOf (operationNumbered n))
+pub nine : (thumb : Bool) (f : Format) (w n : ℕ) → 0 < n → n < 10 → operationTree thumb f w (operationNumbered n) ≡ dyadic f w (arithmeticOf (operationNumbered n))
 unfolding operationTree operationNumbered
 nine thumb f w zero h g = absurd (omega arith)
 nine thumb f w (suc zero) h g = refl
@@ -39,20 +39,20 @@ nine thumb f w (suc (suc (suc (suc (suc (suc (suc (suc zero)))))))) h g = refl
 nine thumb f w (suc (suc (suc (suc (suc (suc (suc (suc (suc zero))))))))) h g = refl
 nine thumb f w (suc (suc (suc (suc (suc (suc (suc (suc (suc (suc n)))))))))) h g = absurd (omega arith)
 
-module _ (f : Format) (w : ℕ) (s : List ℕ) (fpscr : ℕ) (s′ : List ℕ) (scalar : fpscr / 2 ^ 16 % 8 ≡ 0) where
-  -- LEN stands in FPSCR 27:0
-  in-control : fpscr % 2 ^ 28 / 2 ^ 16 % 8 ≡ 0
-  in-control = omega arith
+-- LEN stands in FPSCR 27:0
+pub in-control : (fpscr : ℕ) → fpscr / 2 ^ 16 % 8 ≡ 0 → fpscr % 2 ^ 28 / 2 ^ 16 % 8 ≡ 0
+in-control fpscr h = omega arith
 
+module _ (f : Format) (w : ℕ) (s : List ℕ) (fpscr : ℕ) (s′ : List ℕ) (scalar : fpscr / 2 ^ 16 % 8 ≡ 0) where
   pub scalar-done : (n : ℕ) → 0 < n → n < 10 → {d a b : ℕ} {k : Arithmetic} → k ≡ arithmeticOf (operationNumbered n) → d ≡ regD f w → a ≡ regN f w → b ≡ regM f w
       → Stepped (arithmeticStep f (fpscr % 2 ^ 28) k d a b) s s′ → Handled (namedTree f w (operationNumbered n)) w s fpscr s′ (Done fpscr)
   scalar-done n h g {d} {a} {b} {k} k′ d′ a′ b′ does =
       dyadic-done w s s′ fpscr (namedTree f w (operationNumbered n)) f (arithmeticOf (operationNumbered n)) k d a b (λ thumb. nine thumb f w n h g) k′ d′ a′ b′
-      (once-only onSingles f (fpscr % 2 ^ 28) (arithmeticStep f (fpscr % 2 ^ 28) k) d a b in-control does)
+      (once-only onSingles f (fpscr % 2 ^ 28) (arithmeticStep f (fpscr % 2 ^ 28) k) d a b (in-control fpscr scalar) does)
 
   -- a step of one operand is all iterations
   pub one-step : (one : ℕ → ℕ → Step) (d m : ℕ) → Stepped (one d m) s s′ → Iterated (iterationsOf f (fpscr % 2 ^ 28) d) (monadicStep f (fpscr % 2 ^ 28) one d m) s s′
-  one-step one d m does = once-only onSingles f (fpscr % 2 ^ 28) (λ d n m. one d m) d d m in-control does
+  one-step one d m does = once-only onSingles f (fpscr % 2 ^ 28) (λ d n m. one d m) d d m (in-control fpscr scalar) does
 
 -- operations 0 to 9 are no unary words
 pub unary-only : (o : Operation) → OneOf (0 ∷ 1 ∷ 2 ∷ 3 ∷ 4 ∷ 5 ∷ 6 ∷ 7 ∷ 8 ∷ 9 ∷ []) (tagOf the-type o) → 9 < numberOf o → {A : Type 0} → A

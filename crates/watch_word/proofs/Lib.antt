@@ -2,3 +2,5 @@
 
 mod Worded
 mod Enables
+mod Scalar
+mod Classes

@@ -1,2 +1,2 @@
 -- What one watched word promises.
-pub mod Enable
+pub mod Class

@@ -1,3 +1,3 @@
 // One watched word.
-pub mod enable;
+pub mod class;
 pub mod word;

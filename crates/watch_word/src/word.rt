@@ -1,37 +1,38 @@
 // One watched word: where it would hang on an unknown place it stops there, else its marks are made and it is executed.
 ghost use mathlib.Core.Path.{_≡_};
-ghost use mathlib.Core.Bool.{false};
+ghost use mathlib.Core.Bool.{true, false};
 ghost use mathlib.Core.List.{List};
-ghost use Prim.Native.Nat.{ℕ};
+ghost use Prim.Native.Nat.{ℕ, _/_, _%_, _^_, _<_};
+ghost use Rattle.bits.specs.Field.{field};
 ghost use Rattle.machine.specs.declared.Controls.{Controls};
 ghost use Rattle.machine.specs.Machine.{assembled};
-ghost use Rattle.machine.specs.Place.{state};
+ghost use Rattle.machine.specs.Place.{state, control};
+ghost use Rattle.meaning.specs.Map.{known};
 ghost use Rattle.meaning.specs.Tree.{seen, watched};
 ghost use Rattle.place_marks.specs.Word.{mapIn};
+ghost use Rattle.decoding.specs.Operation.{operationOf, numberOf};
 ghost use Rattle.decoding.specs.Table.{operationTable};
 ghost use Rattle.processing.specs.Data.{dataTree};
 ghost use Rattle.memory.specs.LoadStore.{loadStoreTree};
 ghost use Rattle.transfers.specs.Transfer.{transferTree};
-ghost use Rattle.run_word.specs.Word.{classTree, enabled, meaning};
+ghost use Rattle.run_word.specs.Word.{meaning};
 ghost use Rattle.run_word.specs.Stop.{nextOf};
-use super::enable::Enable;
-use super::enable::enable_of;
+use super::class::WatchedClass;
+use super::class::enabled_watched_class;
 use access_marks::mark_load_store;
 use bits::field::bit;
-use bits::field::bits;
-use bits::psr::check_condition;
-use decoding::table::operation;
+use decoding::operation::numbered;
+use decoding::table::number;
 use hangs::Hang;
 use hangs::access::hang_access;
 use hangs::data::hang_data;
 use machine::Controls;
-use machine::place::NZCV;
+use machine::place::CONTROL;
 use place_marks::place::is_known;
 use processing::Processed;
 use processing_marks::mark_data;
 use run_word::Next;
 use run_word::Stop;
-use run_word::word::foreign;
 use transfer_marks::single::mark_single_core;
 use transfer_marks::system::mark_system;
 use transfers::Transfer;
@@ -39,6 +40,8 @@ use transfers::single::single_core;
 use transfers::system::system;
 use transfers::transfer_of;
 use vfp::current_pc;
+use watched_scalars::watched_double;
+use watched_scalars::watched_single;
 
 // What is no array of the machine, the marks and what follows, after a word.
 pub struct Seen {
@@ -62,53 +65,28 @@ pub fn watch_word(
     requires { ⌜ now table ≡ operationTable ⌝ }
     ensures { λ e. ⌜ seen (state (assembled (now (s .exit)) (now (r .exit)) (e .controls) false) (now (window .exit))) (mapIn (e .marks) (now («window_marks» .exit))) (nextOf (e .next)) ≡ watched (meaning base op) (state (assembled (now (s .entry)) (now (r .entry)) x false) (now (window .entry))) (mapIn marks (now («window_marks» .entry))) ⌝ }
 {
-    if foreign(op) {
-        return Seen {
+    let flags = x.cpsr;
+    let class = enabled_watched_class(marks, op, flags, x.fpexc);
+    match class {
+        WatchedClass::Data => watch_data(table, s, r, x, marks, op),
+        WatchedClass::Access => watch_access(s, r, x, window, marks, window_marks, base, op),
+        WatchedClass::Transfer => watch_transfer(s, r, x, marks, op),
+        WatchedClass::Skipped => Seen {
+            controls: x,
+            marks,
+            next: Next::On, // skipped, and counted
+        },
+        WatchedClass::Foreign => Seen {
             controls: x,
             marks,
             next: Next::Halt(Stop::Foreign),
-        };
-    }
-    let condition = bits(op, 28, 31);
-    if condition != 14 {
-        if !is_known(marks, NZCV) {
-            return Seen {
-                controls: x,
-                marks,
-                next: Next::Halt(Stop::Hangs(NZCV)),
-            };
-        }
-        let flags = x.cpsr;
-        if !check_condition(condition, flags) {
-            return Seen {
-                controls: x,
-                marks,
-                next: Next::On, // skipped, and counted
-            };
-        }
-    }
-    watch_enabled(table, s, r, x, window, marks, window_marks, base, op)
-}
-
-// A word whose condition holds, if the unit is enabled for it.
-fn watch_enabled(
-    table: &[u8; 1024],
-    s: &mut [u32; 32],
-    r: &mut [u32; 16],
-    x: Controls,
-    window: &mut [u32],
-    marks: u64,
-    window_marks: &mut [u8],
-    base: u32,
-    op: u32,
-) -> Seen
-    requires { ⌜ now table ≡ operationTable ⌝ }
-    ensures { λ e. ⌜ seen (state (assembled (now (s .exit)) (now (r .exit)) (e .controls) false) (now (window .exit))) (mapIn (e .marks) (now («window_marks» .exit))) (nextOf (e .next)) ≡ watched (enabled op (classTree base op)) (state (assembled (now (s .entry)) (now (r .entry)) x false) (now (window .entry))) (mapIn marks (now («window_marks» .entry))) ⌝ }
-{
-    let enable = enable_of(marks, x.fpexc, op);
-    match enable {
-        Enable::On => watch_class(table, s, r, x, window, marks, window_marks, base, op),
-        Enable::Off => {
+        },
+        WatchedClass::Hangs(place) => Seen {
+            controls: x,
+            marks,
+            next: Next::Halt(Stop::Hangs(place)),
+        },
+        WatchedClass::Off => {
             let pc = current_pc(r[15], false);
             Seen {
                 controls: x,
@@ -116,36 +94,7 @@ fn watch_enabled(
                 next: Next::Halt(Stop::Undefined { pc, opcode: op }),
             }
         }
-        Enable::Hangs(place) => Seen {
-            controls: x,
-            marks,
-            next: Next::Halt(Stop::Hangs(place)),
-        },
     }
-}
-
-// A word of an enabled unit, by its class.
-fn watch_class(
-    table: &[u8; 1024],
-    s: &mut [u32; 32],
-    r: &mut [u32; 16],
-    x: Controls,
-    window: &mut [u32],
-    marks: u64,
-    window_marks: &mut [u8],
-    base: u32,
-    op: u32,
-) -> Seen
-    requires { ⌜ now table ≡ operationTable ⌝ }
-    ensures { λ e. ⌜ seen (state (assembled (now (s .exit)) (now (r .exit)) (e .controls) false) (now (window .exit))) (mapIn (e .marks) (now («window_marks» .exit))) (nextOf (e .next)) ≡ watched (classTree base op) (state (assembled (now (s .entry)) (now (r .entry)) x false) (now (window .entry))) (mapIn marks (now («window_marks» .entry))) ⌝ }
-{
-    if bits(op, 25, 27) == 0b110 {
-        return watch_access(s, r, x, window, marks, window_marks, base, op);
-    }
-    if bit(op, 4) {
-        return watch_transfer(s, r, x, marks, op);
-    }
-    watch_data(table, s, r, x, marks, op)
 }
 
 // A load or store hangs on its base register.
@@ -217,7 +166,7 @@ fn watch_transfer(s: &mut [u32; 32], r: &mut [u32; 16], x: Controls, marks: u64,
     }
 }
 
-// Data processing hangs on r15 where it is Undefined, and on FPSCR 27:0 where it steps.
+// Data processing hangs on r15 where it is Undefined, and on FPSCR 27:0 where it steps. Arithmetic of scalars needs no loop, for its marks neither.
 fn watch_data(
     table: &[u8; 1024],
     s: &mut [u32; 32],
@@ -226,10 +175,14 @@ fn watch_data(
     marks: u64,
     op: u32,
 ) -> Seen
-    requires { ⌜ now table ≡ operationTable ⌝ }
+    requires { ⌜ (now table ≡ operationTable) × (field op 9 11 ≡ 0b101) ⌝ }
     ensures { λ e. ⌜ ((v w : List ℕ) → seen (state (assembled (now (s .exit)) (now (r .entry)) (e .controls) false) v) (mapIn (e .marks) w) (nextOf (e .next)) ≡ watched (dataTree false op) (state (assembled (now (s .entry)) (now (r .entry)) x false) v) (mapIn marks w)) ⌝ }
 {
-    let o = operation(table, op);
+    let n = number(table, op);
+    if is_scalar(marks, x.fpscr, n) {
+        return watch_scalar(s, x, marks, n, op);
+    }
+    let o = numbered(n);
     let hang = hang_data(marks, o, op);
     match hang {
         Hang::At(place) => Seen {
@@ -263,5 +216,42 @@ fn watch_data(
                 }
             }
         }
+    }
+}
+
+// Whether the word is arithmetic that makes one iteration and does not hang.
+fn is_scalar(marks: u64, fpscr: u32, n: u8) -> bool
+    ensures { λ b. ⌜ (b ≡ true → (0 < n) × (n < 10) × (fpscr / 2 ^ 16 % 8 ≡ 0) × ((w : List ℕ) → known (mapIn marks w) control ≡ true)) ⌝ }
+{
+    if n == 0 {
+        return false;
+    }
+    if n > 9 {
+        return false;
+    }
+    if fpscr / 0x1_0000 % 8 != 0 {
+        return false;
+    }
+    is_known(marks, CONTROL)
+}
+
+// Arithmetic of scalars, with its marks made beside it.
+fn watch_scalar(s: &mut [u32; 32], x: Controls, marks: u64, n: u8, op: u32) -> Seen
+    requires { ⌜ (n ≡ numberOf (operationOf op)) × (field op 9 11 ≡ 0b101) × (0 < n) × (n < 10) × (x .fpscr / 2 ^ 16 % 8 ≡ 0) × ((w : List ℕ) → known (mapIn marks w) control ≡ true) ⌝ }
+    ensures { λ e. ⌜ ((r v w : List ℕ) → seen (state (assembled (now (s .exit)) r (e .controls) false) v) (mapIn (e .marks) w) (nextOf (e .next)) ≡ watched (dataTree false op) (state (assembled (now (s .entry)) r x false) v) (mapIn marks w)) ⌝ }
+{
+    if bit(op, 8) {
+        let known = watched_double(s, marks, x.fpscr, n, op);
+        return Seen {
+            controls: x,
+            marks: known,
+            next: Next::On,
+        };
+    }
+    let known = watched_single(s, marks, x.fpscr, n, op);
+    Seen {
+        controls: x,
+        marks: known,
+        next: Next::On,
     }
 }

@@ -1,36 +1,107 @@
 -- `watch_word::word::watch_word` meets its contract.
+use borrow.Author.Needs.{needs}
 use denote.Ref.{now}
 use mathlib.Core.Bool.{false}
+use mathlib.Core.Path.{sym, _∙_, refl}
+use native.Mathlib.Omega.{arith}
 use Rattle.machine.specs.Machine.{assembled}
-use Rattle.machine.specs.Place.{state}
+use Rattle.machine.specs.Place.{state, nzcv}
+use Rattle.meaning.specs.Map.{known}
 use Rattle.place_marks.specs.Word.{mapIn}
-use borrow.Author.Tests.{not-true, not-false}
-use mathlib.Core.Logic.{⊎-elim}
-use mathlib.Core.Path.{sym, _∙_, ap}
-use Prim.Native.Nat.{ℕ}
-use Rattle.bits.specs.Psr.{holds}
-use Rattle.bits.specs.Field.{field}
-use Rattle.run_word.specs.Word.{classTree, enabled}
-use Rattle.run_word.proofs.Words.{meaning-foreign, meaning-word, condition-field}
-use Rattle.watch_word.proofs.Worded.{stopping, always, flags-unknown, holding, failing}
-use Rattle.place_marks.proofs.Places.{place-nzcv}
-use Rattle.place_marks.proofs.Places.{place-nzcv}
-use borrow.Author.Needs.{needs}
+use Rattle.watch_word.proofs.Classes.{by-watched-class, data-vfp}
+use Rattle.watch_word.proofs.Worded.{stopping}
 use Rattle.watch_word.proofs.word.watch_word.Statement.{statement}
 use Rattle.watch_word.proofs.word.watch_word.Tie as tie
+
+enabled-watched-class-requires : tie.Need-enabled-watched-class-requires
+enabled-watched-class-requires c κs = search needs
+
+enum-told : tie.Need-enum-told
+enum-told c = search needs
+
+watch-data-requires : tie.Need-watch-data-requires
+watch-data-requires c κs = let a = c .before .before .before .before .before .before .before .before .args in (c .before .before .before .before .before .before .before .before .pre, data-vfp (a .op) (a .x .cpsr) (a .x .fpexc) (mapIn (a .marks) (now (a .window-marks))) (omega arith) (sym (c .before .before .enum-told .given .1) ∙ c .before .before .before .before .enabled-watched-class .ensures (now (a .window-marks))))
+
+enum-told-2 : tie.Need-enum-told-2
+enum-told-2 c = search needs
+
+watch-access-requires : tie.Need-watch-access-requires
+watch-access-requires c κs = search needs
+
+enum-told-3 : tie.Need-enum-told-3
+enum-told-3 c = search needs
+
+watch-transfer-requires : tie.Need-watch-transfer-requires
+watch-transfer-requires c κs = search needs
+
+enum-told-4 : tie.Need-enum-told-4
+enum-told-4 c = search needs
+
+enum-told-5 : tie.Need-enum-told-5
+enum-told-5 c = search needs
+
+enum-told-6 : tie.Need-enum-told-6
+enum-told-6 c = search needs
+
+returns : tie.Need-returns
+returns c = let a = c .before .before .before .before .before .before .before .before .before .args in by-watched-class (a .base) (a .op) (state (assembled (now (a .s)) (now (a .r)) (a .x) false) (now (a .window))) (mapIn (a .marks) (now (a .window-marks))) _ _ (sym (c .before .before .before .enum-told .given .1) ∙ c .before .before .before .before .before .enabled-watched-class .ensures (now (a .window-marks))) (c .watch-data .ensures (now (a .window)) (now (a .window-marks)))
+
+same-length : tie.Need-same-length
+same-length c = search needs
+
+same-length-2 : tie.Need-same-length-2
+same-length-2 c = search needs
+
+returns-2 : tie.Need-returns-2
+returns-2 c = let a = c .before .before .before .before .before .before .before .before .before .before .before .before .before .before .before .args in by-watched-class (a .base) (a .op) (state (assembled (now (a .s)) (now (a .r)) (a .x) false) (now (a .window))) (mapIn (a .marks) (now (a .window-marks))) _ _ (sym (c .before .before .before .before .before .before .before .before .before .enum-told2 .given .1) ∙ c .before .before .before .before .before .before .before .before .before .before .before .enabled-watched-class .ensures (now (a .window-marks))) (c .before .before .before .before .watch-access .ensures)
+
+returns-3 : tie.Need-returns-3
+returns-3 c = let a = c .before .before .before .before .before .before .before .before .before .args in by-watched-class (a .base) (a .op) (state (assembled (now (a .s)) (now (a .r)) (a .x) false) (now (a .window))) (mapIn (a .marks) (now (a .window-marks))) _ _ (sym (c .before .before .before .enum-told3 .given .1) ∙ c .before .before .before .before .before .enabled-watched-class .ensures (now (a .window-marks))) (c .watch-transfer .ensures (now (a .window)) (now (a .window-marks)))
+
+returns-4 : tie.Need-returns-4
+returns-4 c = let a = c .before .before .before .before .before .before .args in by-watched-class (a .base) (a .op) (state (assembled (now (a .s)) (now (a .r)) (a .x) false) (now (a .window))) (mapIn (a .marks) (now (a .window-marks))) _ _ (sym (c .enum-told4 .given .1) ∙ c .before .before .enabled-watched-class .ensures (now (a .window-marks))) refl
+
+returns-5 : tie.Need-returns-5
+returns-5 c = let a = c .before .before .before .before .before .before .args in by-watched-class (a .base) (a .op) (state (assembled (now (a .s)) (now (a .r)) (a .x) false) (now (a .window))) (mapIn (a .marks) (now (a .window-marks))) _ _ (sym (c .enum-told5 .given .1) ∙ c .before .before .enabled-watched-class .ensures (now (a .window-marks))) (stopping _ (state (assembled (now (a .s)) (now (a .r)) (a .x) false) (now (a .window))) (mapIn (a .marks) (now (a .window-marks))))
+
+enum-known-class : tie.Need-enum-known-class
+enum-known-class c = search needs
+
+element-copy-out-current-pc : tie.Need-element-copy-out-current-pc
+element-copy-out-current-pc c = search needs
+
+current-pc-requires : tie.Need-current-pc-requires
+current-pc-requires c κs = search needs
+
+returns-6 : tie.Need-returns-6
+returns-6 c = let a = c .before .before .before .before .before .before .before .args in by-watched-class (a .base) (a .op) (state (assembled (now (a .s)) (now (a .r)) (a .x) false) (now (a .window))) (mapIn (a .marks) (now (a .window-marks))) _ _ (sym (c .before .class .given .1) ∙ c .before .before .before .enabled-watched-class .ensures (now (a .window-marks))) refl
+
+returns-7 : tie.Need-returns-7
+returns-7 c = let a = c .before .before .before .before .before .before .before .before .args in by-watched-class (a .base) (a .op) (state (assembled (now (a .s)) (now (a .r)) (a .x) false) (now (a .window))) (mapIn (a .marks) (now (a .window-marks))) _ _ (sym (c .before .before .enum-told6 .given .1) ∙ c .before .before .before .before .enabled-watched-class .ensures (now (a .window-marks))) (rw (c .current-pc .ensures))
 
 pub watch-word-spec : {M : Type 1} → statement M
 watch-word-spec =
     tie.close
     (tie.spec
-    (λ c κs. search needs)
-    (λ c. let a = c .before .before .before .before .args in rw (meaning-foreign (a .base) (a .op) (c .before .foreign .result) (c .before .foreign .ensures) (c .if1 .taken)) (stopping _ (state (assembled (now (a .s)) (now (a .r)) (a .x) false) (now (a .window))) (mapIn (a .marks) (now (a .window-marks)))))
-    (λ c κs. search needs)
-    (λ c κs. search needs)
-    (λ c. let a = c .before .before .before .before .before .before .before .before .args in rw (meaning-word (a .base) (a .op) (c .before .before .before .before .before .foreign .result) (c .before .before .before .before .before .foreign .ensures) (c .before .before .before .before .if1 .left)) (flags-unknown (field (a .op) 28 31) (enabled (a .op) (classTree (a .base) (a .op))) (state (assembled (now (a .s)) (now (a .r)) (a .x) false) (now (a .window))) (mapIn (a .marks) (now (a .window-marks))) (λ z. c .before .before .if2 .taken (c .before .before .before .bits .ensures ∙ z)) (sym (rw place-nzcv at (c .before .is-known .ensures (now (a .window-marks)))) ∙ not-true _ (c .if3 .taken))))
-    (λ c κs. search needs)
-    (λ c. let a = c .before .before .before .before .before .before .before .before .before .before .before .args in rw (meaning-word (a .base) (a .op) (c .before .before .before .before .before .before .before .before .foreign .result) (c .before .before .before .before .before .before .before .before .foreign .ensures) (c .before .before .before .before .before .before .before .if1 .left)) (failing (field (a .op) 28 31) (enabled (a .op) (classTree (a .base) (a .op))) (state (assembled (now (a .s)) (now (a .r)) (a .x) false) (now (a .window))) (mapIn (a .marks) (now (a .window-marks))) (λ z. c .before .before .before .before .before .if2 .taken (c .before .before .before .before .before .before .bits .ensures ∙ z)) (sym (rw place-nzcv at (c .before .before .before .before .is-known .ensures (now (a .window-marks)))) ∙ not-false _ (c .before .before .before .if3 .left)) (sym (c .before .check-condition .ensures ∙ ap (λ (n : ℕ). holds n (a .x .cpsr)) (condition-field (a .op) _ (c .before .before .before .before .before .before .bits .ensures))) ∙ not-true _ (c .if4 .taken))))
-    (λ c κs. search needs)
-    (λ c. search needs)
-    (λ c. search needs)
-    (λ c. let a = c .before .before .before .before .before .before .before .before .before .before .before .before .before .before .before .args in rw (meaning-word (a .base) (a .op) (c .before .before .before .before .before .before .before .before .before .before .before .before .foreign .result) (c .before .before .before .before .before .before .before .before .before .before .before .before .foreign .ensures) (c .before .before .before .before .before .before .before .before .before .before .before .if1 .left)) (⊎-elim (λ p. holding (field (a .op) 28 31) (enabled (a .op) (classTree (a .base) (a .op))) (state (assembled (now (a .s)) (now (a .r)) (a .x) false) (now (a .window))) (mapIn (a .marks) (now (a .window-marks))) (λ z. p .0 .taken (c .before .before .before .before .before .before .before .before .before .before .bits .ensures ∙ z)) (sym (rw place-nzcv at (p .1 .ensures (now (a .window-marks)))) ∙ not-false _ (p .2 .left)) (sym (p .4 .ensures ∙ ap (λ (n : ℕ). holds n (a .x .cpsr)) (condition-field (a .op) _ (c .before .before .before .before .before .before .before .before .before .before .bits .ensures))) ∙ not-false _ (p .5 .left)) _ (c .before .before .before .before .watch-enabled .ensures)) (λ p. always (field (a .op) 28 31) (enabled (a .op) (classTree (a .base) (a .op))) (state (assembled (now (a .s)) (now (a .r)) (a .x) false) (now (a .window))) (mapIn (a .marks) (now (a .window-marks))) (sym (c .before .before .before .before .before .before .before .before .before .before .bits .ensures) ∙ p .left) _ (c .before .before .before .before .watch-enabled .ensures)) (c .before .before .before .before .before .before .before .before .before .if2 .came))))
+    enabled-watched-class-requires
+    enum-told
+    watch-data-requires
+    enum-told-2
+    watch-access-requires
+    enum-told-3
+    watch-transfer-requires
+    enum-told-4
+    enum-told-5
+    enum-known-class
+    enum-told-6
+    element-copy-out-current-pc
+    current-pc-requires
+    returns
+    same-length
+    same-length-2
+    returns-2
+    returns-3
+    returns-4
+    returns-5
+    returns-6
+    returns-7)

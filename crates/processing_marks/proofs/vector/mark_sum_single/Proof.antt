@@ -1,14 +1,14 @@
--- `processing_marks::vector::arithmetic_single` meets its contract.
+-- `processing_marks::vector::mark_sum_single` meets its contract.
 use mathlib.Core.Path.{sym, _∙_}
 use lib.Ieee.{binary32}
 use Rattle.place_marks.specs.Word.{mapIn}
 use Rattle.processing_marks.proofs.Steps.{accumulate-marks, two-operand-marks}
 use borrow.Author.Needs.{needs}
-use Rattle.processing_marks.proofs.vector.arithmetic_single.Statement.{statement}
-use Rattle.processing_marks.proofs.vector.arithmetic_single.Tie as tie
+use Rattle.processing_marks.proofs.vector.mark_sum_single.Statement.{statement}
+use Rattle.processing_marks.proofs.vector.mark_sum_single.Tie as tie
 
-pub arithmetic-single-spec : {M : Type 1} → statement M
-arithmetic-single-spec =
+pub mark-sum-single-spec : {M : Type 1} → statement M
+mark-sum-single-spec =
     tie.close
     (tie.spec
     (λ c κs. search needs)

@@ -1,14 +1,14 @@
--- `processing_marks::vector::arithmetic_double` meets its contract.
+-- `processing_marks::vector::mark_sum_double` meets its contract.
 use mathlib.Core.Path.{sym, _∙_}
 use lib.Ieee.{binary64}
 use Rattle.place_marks.specs.Word.{mapIn}
 use Rattle.processing_marks.proofs.Steps.{accumulate-marks, two-operand-marks}
 use borrow.Author.Needs.{needs}
-use Rattle.processing_marks.proofs.vector.arithmetic_double.Statement.{statement}
-use Rattle.processing_marks.proofs.vector.arithmetic_double.Tie as tie
+use Rattle.processing_marks.proofs.vector.mark_sum_double.Statement.{statement}
+use Rattle.processing_marks.proofs.vector.mark_sum_double.Tie as tie
 
-pub arithmetic-double-spec : {M : Type 1} → statement M
-arithmetic-double-spec =
+pub mark-sum-double-spec : {M : Type 1} → statement M
+mark-sum-double-spec =
     tie.close
     (tie.spec
     (λ c κs. search needs)

@@ -1,0 +1,24 @@
+-- `watched_scalars::watched_single` meets its contract.
+use Prim.Native.Nat.{_%_, _^_}
+use denote.Ref.{now}
+use lib.Ieee.{binary32}
+use mathlib.Core.Path.{_∙_, ap}
+use borrow.Author.Needs.{needs}
+use Rattle.decoding.specs.Operation.{arithmeticOf}
+use Rattle.scalars.proofs.Scalar.{scalar-done}
+use Rattle.watched_scalars.proofs.Marks.{scalar-marked}
+use Rattle.watched_scalars.proofs.watched_single.Statement.{statement}
+use Rattle.watched_scalars.proofs.watched_single.Tie as tie
+
+pub watched-single-spec : {M : Type 1} → statement M
+watched-single-spec =
+    tie.close
+    (tie.spec
+    (λ c κs. search needs)
+    (λ c κs. search needs)
+    (λ c κs. search needs)
+    (λ c κs. search needs)
+    (λ c κs. search needs)
+    (λ c κs. search needs)
+    (λ c κs. search needs)
+    (λ c. let a = c .before .before .before .before .before .before .before .before .args in let pre = c .before .before .before .before .before .before .before .before .pre in (scalar-done binary32 (a .op) (now (a .s)) (a .fpscr) _ (pre .2) (a .number) (pre .0) (pre .1) (c .before .before .before .before .before .before .arithmetic-of .ensures ∙ ap arithmeticOf (c .before .before .before .before .before .before .before .numbered .ensures)) (c .before .before .before .before .before .single-d .ensures .0) (c .before .before .before .before .single-n .ensures .0) (c .before .before .before .single-m .ensures .0) (c .arithmetic-single .ensures), scalar-marked binary32 (a .op) (a .fpscr) (a .marks) _ (pre .2) (a .number) (pre .0) (pre .1) (c .before .before .before .before .before .before .arithmetic-of .ensures ∙ ap arithmeticOf (c .before .before .before .before .before .before .before .numbered .ensures)) (c .before .before .before .before .before .single-d .ensures .0) (c .before .before .before .before .single-n .ensures .0) (c .before .before .before .single-m .ensures .0) (c .before .before .mark-sum-single .ensures (a .fpscr % 2 ^ 28)))))

@@ -1,0 +1,46 @@
+// Arithmetic of scalars in the watched run: as in crate scalars, with the marks beside it.
+ghost use mathlib.Core.Path.{_≡_};
+ghost use Prim.Native.Nat.{_/_, _%_, _^_, _<_};
+ghost use lib.Ieee.{binary32, binary64};
+ghost use Rattle.decoding.specs.Operation.{operationNumbered};
+ghost use Rattle.processing.specs.Data.{Handled, namedTree};
+ghost use Rattle.processing.specs.declared.Processed.the-variants.{Done};
+ghost use Rattle.processing_marks.specs.Marked.{Marked};
+use arithmetic_steps::arithmetic::arithmetic_double;
+use arithmetic_steps::arithmetic::arithmetic_single;
+use decoding::fields::double_d;
+use decoding::fields::double_m;
+use decoding::fields::double_n;
+use decoding::fields::single_d;
+use decoding::fields::single_m;
+use decoding::fields::single_n;
+use decoding::operation::arithmetic_of;
+use decoding::operation::numbered;
+use processing_marks::vector::mark_sum_double;
+use processing_marks::vector::mark_sum_single;
+
+pub fn watched_single(s: &mut [u32; 32], marks: u64, fpscr: u32, number: u8, op: u32) -> u64
+    requires { ⌜ (0 < number) × (number < 10) × (fpscr / 2 ^ 16 % 8 ≡ 0) ⌝ }
+    ensures { λ y. ⌜ Handled (namedTree binary32 op (operationNumbered number)) op (now (s .entry)) fpscr (now (s .exit)) (Done fpscr) × Marked (namedTree binary32 op (operationNumbered number)) fpscr marks y ⌝ }
+{
+    let kind = arithmetic_of(numbered(number));
+    let d = single_d(op);
+    let n = single_n(op);
+    let m = single_m(op);
+    let known = mark_sum_single(marks, kind, d, n, m);
+    arithmetic_single(s, fpscr % 0x1000_0000, kind, d, n, m);
+    known
+}
+
+pub fn watched_double(s: &mut [u32; 32], marks: u64, fpscr: u32, number: u8, op: u32) -> u64
+    requires { ⌜ (0 < number) × (number < 10) × (fpscr / 2 ^ 16 % 8 ≡ 0) ⌝ }
+    ensures { λ y. ⌜ Handled (namedTree binary64 op (operationNumbered number)) op (now (s .entry)) fpscr (now (s .exit)) (Done fpscr) × Marked (namedTree binary64 op (operationNumbered number)) fpscr marks y ⌝ }
+{
+    let kind = arithmetic_of(numbered(number));
+    let d = double_d(op);
+    let n = double_n(op);
+    let m = double_m(op);
+    let known = mark_sum_double(marks, kind, d, n, m);
+    arithmetic_double(s, fpscr % 0x1000_0000, kind, d, n, m);
+    known
+}
