@@ -1,3 +1,4 @@
--- Laws on the first address, and on the words of a double.
+-- Laws on the first address, on the words of a double, and on those of a contiguous transfer.
 pub mod Start
 pub mod Singles
+pub mod Block

@@ -4,6 +4,7 @@ use mathlib.Core.Bool.{Bool, true, false, cond, not, _&&_}
 use mathlib.Core.List.{[], _∷_}
 use lib.Ieee.{Format, binary32, binary64}
 use Rattle.bits.specs.Field.{field, bitOf}
+use Rattle.machine.specs.Registers.{lowIndex}
 use Rattle.machine.specs.Place.{core}
 use Rattle.meaning.specs.Step.{Step, grow}
 
@@ -26,6 +27,15 @@ several binary64 w = w % 256 / 2
 
 abbrev pub countOf : Format → ℕ → ℕ
 countOf f w = cond (oneOnly w) 1 (max (several f w) 1)
+
+-- a register's words: how many, and the first, as a single
+abbrev pub wordsIn : Format → ℕ
+wordsIn binary32 = 1
+wordsIn binary64 = 2
+
+abbrev pub firstWord : Format → ℕ → ℕ
+firstWord binary32 n = n
+firstWord binary64 n = lowIndex n
 
 -- base - offset, or with U set the base itself, or base + offset where one register moves
 abbrev pub startOf : ℕ → ℕ → ℕ

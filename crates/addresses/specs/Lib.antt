@@ -1,2 +1,3 @@
 -- What the crate's contracts mean.
 pub mod Address
+pub mod Contiguous

@@ -2,17 +2,22 @@
 ghost use mathlib.Core.Path.{_≡_};
 ghost use mathlib.Core.Bool.{cond};
 ghost use mathlib.Core.List.{List};
-ghost use Prim.Native.Nat.{ℕ, _+_, _-_, _%_, _≤_, _^_};
-ghost use Rattle.bits.specs.Field.{bitOf};
+ghost use Prim.Native.Nat.{ℕ, _+_, _-_, _*_, _%_, _<_, _≤_, _^_};
+ghost use Rattle.bits.specs.Field.{field, bitOf};
 ghost use Rattle.machine.specs.declared.Machine.{Machine};
 ghost use Rattle.machine.specs.Machine.{withR};
+ghost use Rattle.machine.specs.Registers.{regOf};
 ghost use Rattle.machine.specs.Place.{state};
 ghost use Rattle.meaning.specs.Step.{step};
-ghost use Rattle.addresses.specs.Address.{formatOf, offset, oneOnly, several, countOf, startOf, writeBack};
+ghost use Rattle.addresses.specs.Address.{formatOf, offset, oneOnly, several, countOf, wordsIn, firstWord, startOf, writeBack};
+use super::halves::low_word;
 use bits::field::bit;
 use bits::field::bits;
 use machine::address::minus;
 use machine::address::plus;
+use machine::registers::Single;
+use machine::registers::dreg;
+use machine::registers::sreg;
 
 // P set and W clear: VLDR and VSTR, one register at base + or - offset.
 fn one_only(op: u32) -> bool
@@ -32,6 +37,29 @@ pub fn count_of(op: u32, double: bool) -> u32
         return 1;
     }
     count
+}
+
+// The words of the registers that move: of a double two.
+pub fn word_count(op: u32, double: bool) -> u32
+    ensures { λ n. ⌜ (n ≡ wordsIn (formatOf double) * countOf (formatOf double) op) × (n ≤ 510) ⌝ }
+{
+    let count = count_of(op, double);
+    if double {
+        return 2 * count;
+    }
+    count
+}
+
+// The first of those words, as a single: of a double the low one.
+pub fn first_word(op: u32, double: bool) -> Single
+    ensures { λ x. ⌜ (x .0 ≡ firstWord (formatOf double) (regOf (formatOf double) (field op 12 15) (field op 22 22))) × (x .0 < 32) ⌝ }
+{
+    let d_bit = bits(op, 22, 22);
+    let vd = bits(op, 12, 15);
+    if double {
+        return low_word(dreg(vd, d_bit));
+    }
+    sreg(vd, d_bit)
 }
 
 // imm8 words, halved down for doubles.

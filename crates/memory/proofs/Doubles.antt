@@ -1,14 +1,15 @@
--- Doubles in turn are their words in turn: k doubles move as 2 k singles do, from the low word of the first double on.
+-- Registers in turn are their words in turn: k doubles move as 2 k singles do, from the low word of the first double on.
 use mathlib.Core.Path.{_≡_, refl, ap, _∙_}
 use mathlib.Core.Bool.{Bool, true, false}
 use mathlib.Core.List.{_++_}
 use Prim.Native.Nat.{ℕ, zero, suc, _+_, _*_, _%_, _^_}
 use native.Mathlib.Omega.{arith}
-use lib.Ieee.{binary32, binary64}
+use lib.Ieee.{Format, binary32, binary64}
 use Rattle.machine.specs.Registers.{singleIndex, lowIndex, highIndex}
 use Rattle.machine.specs.Place.{State}
 use Rattle.meaning.specs.Step.{Step, step, after}
 use Rattle.meaning.proofs.Laws.{after-one}
+use Rattle.addresses.specs.Address.{wordsIn, firstWord}
 use Rattle.memory.specs.LoadStore.{accessStep, accessAt}
 
 module _ (load : Bool) (base d a : ℕ) where
@@ -41,9 +42,14 @@ in-turn true base n m a b st = refl
 in-turn false base n m a b st = refl
 
 module _ (load : Bool) (base d a : ℕ) where
-  pub doubles : (k : ℕ) (st : State) → after k (accessAt binary64 load base d a) st ≡ after (2 * k) (accessAt binary32 load base (lowIndex d) a) st
+  doubles : (k : ℕ) (st : State) → after k (accessAt binary64 load base d a) st ≡ after (2 * k) (accessAt binary32 load base (lowIndex d) a) st
   unfolding after
   doubles zero st = refl
   doubles (suc k) st =
       let e : 2 * suc k ≡ 2 * k + 1 + 1 = omega arith in
       rw e (ap (λ (x : Step). step x (after k (accessAt binary64 load base d a) st)) (halves load base d a k) ∙ in-turn load base _ _ _ _ _ ∙ after-one (2 * k + 1) _ st _ (after-one (2 * k) _ st _ (doubles k st)))
+
+  pub in-words : (f : Format) (k : ℕ) (st : State)
+      → after k (accessAt f load base d a) st ≡ after (wordsIn f * k) (accessAt binary32 load base (firstWord f d) a) st
+  in-words binary32 k st = let e : 1 * k ≡ k = omega arith in rw e
+  in-words binary64 k st = doubles k st

@@ -12,10 +12,7 @@ ghost use Rattle.meaning.specs.Tree.{out, plain, on};
 ghost use Rattle.addresses.specs.Address.{formatOf, countOf};
 ghost use Rattle.memory.specs.LoadStore.{accessAt, accessTree, loadStoreTree};
 use addresses::address;
-use addresses::halves;
 use bits::field::bits;
-use machine::registers::dreg;
-use machine::registers::sreg;
 use pairs::pair;
 
 pub fn coprocessor_load_store(
@@ -56,18 +53,11 @@ fn load_store(
     transfer(s, window, base, op, double, start);
 }
 
-// The registers of the transfer in turn, from an address on.
+// The registers of the transfer in turn, from an address on: their words in turn.
 fn transfer(s: &mut [u32; 32], window: &mut [u32], base: u32, op: u32, double: bool, start: u32)
     ensures { λ _. ⌜ ((q : Machine) → state (withS q (now (s .exit))) (now (window .exit)) ≡ after (countOf (formatOf double) op) (accessAt (formatOf double) (bitOf op 20) base (regOf (formatOf double) (field op 12 15) (field op 22 22)) start) (state (withS q (now (s .entry))) (now (window .entry)))) ⌝ }
 {
-    let d_bit = bits(op, 22, 22);
-    let vd = bits(op, 12, 15);
-    let count = address::count_of(op, double);
-    if double {
-        // Doubles in turn are their words in turn.
-        let first = halves::low_word(dreg(vd, d_bit));
-        words::move_words(s, window, base, op, start, first, 2 * count);
-        return;
-    }
-    words::move_words(s, window, base, op, start, sreg(vd, d_bit), count);
+    let first = address::first_word(op, double);
+    let count = address::word_count(op, double);
+    words::move_words(s, window, base, op, start, first, count);
 }

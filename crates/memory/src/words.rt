@@ -3,18 +3,22 @@ ghost use mathlib.Core.Path.{_≡_};
 ghost use mathlib.Core.Bool.{true, false};
 ghost use Prim.Native.Nat.{_<_, _≤_};
 ghost use lib.Ieee.{binary32};
+ghost use lib.ListN.{length};
 ghost use Rattle.bits.specs.Field.{bitOf};
 ghost use Rattle.machine.specs.declared.Machine.{Machine};
 ghost use Rattle.machine.specs.Machine.{withS};
 ghost use Rattle.machine.specs.Place.{state};
 ghost use Rattle.meaning.specs.Step.{after};
+ghost use Rattle.addresses.specs.Contiguous.{Contiguous};
 ghost use Rattle.memory.specs.LoadStore.{accessAt};
+use addresses::contiguous::is_contiguous;
 use bits::field::bit;
 use machine::address::plus;
 use machine::registers::Single;
 use machine::registers::get_single;
 use machine::registers::set_single;
 use machine::window::read32;
+use machine::window::word_at;
 use machine::window::write32;
 
 // By bit 20 of the word a load or a store.
@@ -30,11 +34,43 @@ pub(crate) fn move_words(
     requires { ⌜ (first .0 < 32) × (count ≤ 510) ⌝ }
     ensures { λ _. ⌜ ((q : Machine) → state (withS q (now (s .exit))) (now (window .exit)) ≡ after count (accessAt binary32 (bitOf op 20) base (first .0) start) (state (withS q (now (s .entry))) (now (window .entry)))) ⌝ }
 {
+    // Nearly every transfer is contiguous, and a loop without tests moves it. Any other is moved word by word.
+    if is_contiguous(window.len(), base, start, first, count) {
+        if bit(op, 20) {
+            load_block(s, &window[..], base, start, first, count);
+            return;
+        }
+        store_block(s, window, base, start, first, count);
+        return;
+    }
     if bit(op, 20) {
         load_words(s, &window[..], base, start, first, count);
         return;
     }
     store_words(s, window, base, start, first, count);
+}
+
+// The loops of a contiguous transfer: no word is tested on its own.
+fn load_block(s: &mut [u32; 32], window: &[u32], base: u32, start: u32, first: Single, count: u32)
+    requires { ⌜ Contiguous (length (now window)) base start (first .0) count ⌝ }
+    ensures { λ _. ⌜ ((q : Machine) → state (withS q (now (s .exit))) (now (window .entry)) ≡ after count (accessAt binary32 true base (first .0) start) (state (withS q (now (s .entry))) (now (window .entry)))) ⌝ }
+{
+    let at = word_at(base, start);
+    let n = count as usize;
+    for i in 0..n {
+        s[first.0 + i] = window[at + i];
+    }
+}
+
+fn store_block(s: &[u32; 32], window: &mut [u32], base: u32, start: u32, first: Single, count: u32)
+    requires { ⌜ Contiguous (length (now window)) base start (first .0) count ⌝ }
+    ensures { λ _. ⌜ ((q : Machine) → state (withS q (now (s .entry))) (now (window .exit)) ≡ after count (accessAt binary32 false base (first .0) start) (state (withS q (now (s .entry))) (now (window .entry)))) ⌝ }
+{
+    let at = word_at(base, start);
+    let n = count as usize;
+    for i in 0..n {
+        window[at + i] = s[first.0 + i];
+    }
 }
 
 fn load_words(s: &mut [u32; 32], window: &[u32], base: u32, start: u32, first: Single, count: u32)
