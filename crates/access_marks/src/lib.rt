@@ -15,12 +15,10 @@ ghost use Rattle.meaning.specs.Hang.{marked};
 ghost use Rattle.addresses.specs.Address.{formatOf, countOf};
 ghost use Rattle.memory.specs.LoadStore.{accessAt, accessTree, loadStoreTree};
 ghost use Rattle.place_marks.specs.Word.{mapIn};
-use addresses::address::count_of;
+use addresses::address::first_word;
 use addresses::address::start_of;
-use addresses::halves::low_word;
+use addresses::address::word_count;
 use bits::field::bits;
-use machine::registers::dreg;
-use machine::registers::sreg;
 
 // The base register's value says which window words move. A write-back changes no mark.
 pub fn mark_load_store(
@@ -58,7 +56,7 @@ fn mark_access(
     mark_transfer(marks, window_marks, base, op, double, start)
 }
 
-// The registers of the transfer in turn, from an address on.
+// The registers of the transfer in turn, from an address on: their words in turn.
 fn mark_transfer(
     marks: u64,
     window_marks: &mut [u8],
@@ -69,13 +67,7 @@ fn mark_transfer(
 ) -> u64
     ensures { λ y. ⌜ mapIn y (now («window_marks» .exit)) ≡ afterMarks (countOf (formatOf double) op) (accessAt (formatOf double) (bitOf op 20) base (regOf (formatOf double) (field op 12 15) (field op 22 22)) start) (mapIn marks (now («window_marks» .entry))) ⌝ }
 {
-    let d_bit = bits(op, 22, 22);
-    let vd = bits(op, 12, 15);
-    let count = count_of(op, double);
-    if double {
-        // Doubles in turn are their words in turn.
-        let first = low_word(dreg(vd, d_bit));
-        return words::mark_words(marks, window_marks, base, op, start, first, 2 * count);
-    }
-    words::mark_words(marks, window_marks, base, op, start, sreg(vd, d_bit), count)
+    let first = first_word(op, double);
+    let count = word_count(op, double);
+    words::mark_words(marks, window_marks, base, op, start, first, count)
 }

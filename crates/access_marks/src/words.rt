@@ -3,15 +3,22 @@ ghost use mathlib.Core.Path.{_≡_};
 ghost use mathlib.Core.Bool.{true, false};
 ghost use Prim.Native.Nat.{_<_, _≤_};
 ghost use lib.Ieee.{binary32};
+ghost use lib.ListN.{length};
 ghost use Rattle.bits.specs.Field.{bitOf};
 ghost use Rattle.meaning.specs.Step.{afterMarks};
+ghost use Rattle.addresses.specs.Contiguous.{Contiguous};
 ghost use Rattle.memory.specs.LoadStore.{accessAt};
 ghost use Rattle.place_marks.specs.Word.{mapIn};
+use addresses::contiguous::is_contiguous;
 use bits::field::bit;
 use machine::address::plus;
 use machine::registers::Single;
+use machine::window::word_at;
+use place_marks::place::is_known;
+use place_marks::place::set_known;
 use place_marks::registers::mark_single;
 use place_marks::registers::single_known;
+use place_marks::window::byte_of;
 use place_marks::window::mark_word;
 use place_marks::window::word_known;
 
@@ -28,11 +35,58 @@ pub(crate) fn mark_words(
     requires { ⌜ (first .0 < 32) × (count ≤ 510) ⌝ }
     ensures { λ y. ⌜ mapIn y (now («window_marks» .exit)) ≡ afterMarks count (accessAt binary32 (bitOf op 20) base (first .0) start) (mapIn marks (now («window_marks» .entry))) ⌝ }
 {
+    // As the words themselves: nearly every transfer is contiguous.
+    if is_contiguous(window_marks.len(), base, start, first, count) {
+        if bit(op, 20) {
+            return mark_block_load(marks, &window_marks[..], base, start, first, count);
+        }
+        mark_block_store(marks, window_marks, base, start, first, count);
+        return marks;
+    }
     if bit(op, 20) {
         return mark_loads(marks, &window_marks[..], base, start, first, count);
     }
     mark_stores(marks, window_marks, base, start, first, count);
     marks
+}
+
+// The loops of a contiguous transfer: no word is tested on its own.
+fn mark_block_load(
+    marks: u64,
+    window_marks: &[u8],
+    base: u32,
+    start: u32,
+    first: Single,
+    count: u32,
+) -> u64
+    requires { ⌜ Contiguous (length (now «window_marks»)) base start (first .0) count ⌝ }
+    ensures { λ y. ⌜ mapIn y (now («window_marks» .entry)) ≡ afterMarks count (accessAt binary32 true base (first .0) start) (mapIn marks (now («window_marks» .entry))) ⌝ }
+{
+    let at = word_at(base, start);
+    let n = count as usize;
+    let mut y = marks;
+    for i in 0..n {
+        y = set_known(y, first.0 + i, window_marks[at + i] == 1);
+    }
+    y
+}
+
+fn mark_block_store(
+    marks: u64,
+    window_marks: &mut [u8],
+    base: u32,
+    start: u32,
+    first: Single,
+    count: u32,
+)
+    requires { ⌜ Contiguous (length (now «window_marks»)) base start (first .0) count ⌝ }
+    ensures { λ _. ⌜ mapIn marks (now («window_marks» .exit)) ≡ afterMarks count (accessAt binary32 false base (first .0) start) (mapIn marks (now («window_marks» .entry))) ⌝ }
+{
+    let at = word_at(base, start);
+    let n = count as usize;
+    for i in 0..n {
+        window_marks[at + i] = byte_of(is_known(marks, first.0 + i));
+    }
 }
 
 fn mark_loads(

@@ -1,6 +1,6 @@
 -- What a window mark reads as, places by their numbers, and the laws of the word of marks.
 
-mod Within
+pub mod Within
 pub mod Places
 pub mod Word
 mod Replaced

@@ -29,7 +29,8 @@ pub fn mark_word(marks: &mut [u8], base: u32, address: u32, b: bool)
     }
 }
 
-fn byte_of(b: bool) -> u8
+// The mark of a word: 1 where it is known.
+pub fn byte_of(b: bool) -> u8
     ensures { λ r. ⌜ (r ≡ oneOf b) × (r < 2) ⌝ }
 {
     if b {
