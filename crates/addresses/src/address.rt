@@ -20,7 +20,7 @@ use machine::registers::dreg;
 use machine::registers::sreg;
 
 // P set and W clear: VLDR and VSTR, one register at base + or - offset.
-fn one_only(op: u32) -> bool
+pub fn one_only(op: u32) -> bool
     ensures { λ b. ⌜ b ≡ oneOnly op ⌝ }
 {
     bit(op, 24) & !bit(op, 21)

@@ -36,7 +36,7 @@ module _ (load : Bool) (base d a : ℕ) where
       by false = rw (low, high, at-high, at-low)
 
 -- a word that is read is none that the other half writes
-in-turn : (load : Bool) (base n m a b : ℕ) (st : State) → step (accessStep binary32 load base n a ++ accessStep binary32 load base m b) st
+pub in-turn : (load : Bool) (base n m a b : ℕ) (st : State) → step (accessStep binary32 load base n a ++ accessStep binary32 load base m b) st
     ≡ step (accessStep binary32 load base m b) (step (accessStep binary32 load base n a) st)
 in-turn true base n m a b st = refl
 in-turn false base n m a b st = refl

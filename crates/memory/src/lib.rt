@@ -7,12 +7,14 @@ ghost use Rattle.machine.specs.Machine.{withS, withR};
 ghost use Rattle.machine.specs.Registers.{regOf};
 ghost use Rattle.machine.specs.Place.{state};
 ghost use Rattle.bits.specs.Field.{field, bitOf};
-ghost use Rattle.meaning.specs.Step.{after};
+ghost use Rattle.meaning.specs.Step.{step, after};
 ghost use Rattle.meaning.specs.Tree.{out, plain, on};
 ghost use Rattle.addresses.specs.Address.{formatOf, countOf};
-ghost use Rattle.memory.specs.LoadStore.{accessAt, accessTree, loadStoreTree};
+ghost use Rattle.memory.specs.LoadStore.{accessStep, accessAt, accessTree, loadStoreTree};
 use addresses::address;
 use bits::field::bits;
+use machine::address::plus;
+use machine::registers::Single;
 use pairs::pair;
 
 pub fn coprocessor_load_store(
@@ -48,6 +50,12 @@ fn load_store(
         return;
     }
     let rn = bits(op, 16, 19) as usize;
+    // VLDR and VSTR need neither a loop nor a write-back.
+    if address::one_only(op) {
+        let start = address::start_of(op, r[rn]);
+        move_one(s, window, base, op, double, start);
+        return;
+    }
     let start = address::start_of(op, r[rn]);
     address::write_back(r, op);
     transfer(s, window, base, op, double, start);
@@ -60,4 +68,16 @@ fn transfer(s: &mut [u32; 32], window: &mut [u32], base: u32, op: u32, double: b
     let first = address::first_word(op, double);
     let count = address::word_count(op, double);
     words::move_words(s, window, base, op, start, first, count);
+}
+
+// One register.
+fn move_one(s: &mut [u32; 32], window: &mut [u32], base: u32, op: u32, double: bool, start: u32)
+    ensures { λ _. ⌜ ((q : Machine) → state (withS q (now (s .exit))) (now (window .exit)) ≡ step (accessStep (formatOf double) (bitOf op 20) base (regOf (formatOf double) (field op 12 15) (field op 22 22)) start) (state (withS q (now (s .entry))) (now (window .entry)))) ⌝ }
+{
+    let first = address::first_word(op, double);
+    words::move_word(s, window, base, op, start, first);
+    if double {
+        let high = Single(first.0 + 1);
+        words::move_word(s, window, base, op, plus(start, 4), high);
+    }
 }

@@ -8,9 +8,9 @@ ghost use Rattle.bits.specs.Field.{bitOf};
 ghost use Rattle.machine.specs.declared.Machine.{Machine};
 ghost use Rattle.machine.specs.Machine.{withS};
 ghost use Rattle.machine.specs.Place.{state};
-ghost use Rattle.meaning.specs.Step.{after};
+ghost use Rattle.meaning.specs.Step.{step, after};
 ghost use Rattle.addresses.specs.Contiguous.{Contiguous};
-ghost use Rattle.memory.specs.LoadStore.{accessAt};
+ghost use Rattle.memory.specs.LoadStore.{accessStep, accessAt};
 use addresses::contiguous::is_contiguous;
 use bits::field::bit;
 use machine::address::plus;
@@ -48,6 +48,26 @@ pub(crate) fn move_words(
         return;
     }
     store_words(s, window, base, start, first, count);
+}
+
+// One word, by bit 20 from or to an address.
+pub(crate) fn move_word(
+    s: &mut [u32; 32],
+    window: &mut [u32],
+    base: u32,
+    op: u32,
+    address: u32,
+    x: Single,
+)
+    ensures { λ _. ⌜ ((q : Machine) → state (withS q (now (s .exit))) (now (window .exit)) ≡ step (accessStep binary32 (bitOf op 20) base (x .0) address) (state (withS q (now (s .entry))) (now (window .entry)))) ⌝ }
+{
+    if bit(op, 20) {
+        let value = read32(&window[..], base, address);
+        set_single(s, x, value);
+        return;
+    }
+    let value = get_single(s, x);
+    write32(window, base, address, value);
 }
 
 // The loops of a contiguous transfer: no word is tested on its own.
