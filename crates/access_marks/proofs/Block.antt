@@ -1,10 +1,11 @@
--- One word more of a contiguous transfer: the word of marks or the window's marks take one mark.
-use mathlib.Core.Path.{_≡_, sym, ap, _∙_}
-use mathlib.Core.Bool.{Bool, true, false}
+-- A contiguous transfer and its marks.
+use mathlib.Core.Path.{_≡_, refl, sym, ap, subst, _∙_}
+use mathlib.Core.Bool.{Bool, true, false, _&&_, true≢false}
 use mathlib.Core.List.{List}
 use Prim.Native.Nat.{ℕ, _+_, _<_}
 use native.Mathlib.Omega.{arith}
 use lib.Dec.{eqb}
+use borrow.Author.Tests.{eqb-true}
 use lib.Ieee.{binary32}
 use lib.ListN.{length, getD, set}
 use Rattle.bits.specs.Psr.{oneOf}
@@ -21,6 +22,7 @@ use Rattle.place_marks.proofs.Places.{place-single}
 use Rattle.place_marks.proofs.Within.{within}
 use Rattle.place_marks.proofs.Word.{known-word, mark-word}
 
+-- one word more: the word of marks or the window's marks take one mark
 module _ (words base a n k i m : ℕ) (w : List ℕ) (μ : Map) (h : Contiguous words base a n k) (l : i < k) where
   pub loaded : words ≡ length w → mapIn m w ≡ afterMarks i (accessAt binary32 true base n a) μ
       → mark (mapIn m w) (place (n + i)) (eqb (getD w (wordAt base a + i) 0) 1) ≡ afterMarks (i + 1) (accessAt binary32 true base n a) μ
@@ -33,3 +35,12 @@ module _ (words base a n k i m : ℕ) (w : List ℕ) (μ : Map) (h : Contiguous 
   stored b q e =
       mark-word m w _ b
       ∙ rw (q, place-single (n + i) (omega arith)) (ap (λ (x : Step). stepMarks x (mapIn m w)) (sym (nth _ _ _ _ _ _ h l false)) ∙ marks-one _ _ _ _ e)
+
+-- a transfer that is contiguous among the words is so among their marks, where there are as many
+pub marks-too : (words marks base a n k : ℕ) (b : Bool) → (b ≡ true → Contiguous words base a n k) → (eqb words marks && b) ≡ true
+    → Contiguous words base a n k × Contiguous marks base a n k
+marks-too words marks base a n k b h e = by (eqb words marks) refl e
+  where
+    by : (t : Bool) → eqb words marks ≡ t → (t && b) ≡ true → Contiguous words base a n k × Contiguous marks base a n k
+    by true p q = (h q, subst (λ (x : ℕ). Contiguous x base a n k) (eqb-true words marks p) (h q))
+    by false p q = absurd (true≢false (sym q))

@@ -14,7 +14,7 @@ use Rattle.memory.specs.LoadStore.{accessStep, accessAt}
 use Rattle.memory.proofs.Doubles.{halves}
 
 -- a mark that is read is none that the other half writes
-in-turn : (load : Bool) (base n m a b : ℕ) (μ : Map) → stepMarks (accessStep binary32 load base n a ++ accessStep binary32 load base m b) μ
+pub in-turn : (load : Bool) (base n m a b : ℕ) (μ : Map) → stepMarks (accessStep binary32 load base n a ++ accessStep binary32 load base m b) μ
     ≡ stepMarks (accessStep binary32 load base m b) (stepMarks (accessStep binary32 load base n a) μ)
 in-turn true base n m a b μ = refl
 in-turn false base n m a b μ = refl

@@ -1,11 +1,14 @@
-// The marks of singles in turn, from or to those of the words from an address on.
+// Singles in turn, from or to the words from an address on, with their marks.
 ghost use mathlib.Core.Path.{_≡_};
 ghost use mathlib.Core.Bool.{true, false};
 ghost use Prim.Native.Nat.{_<_, _≤_};
 ghost use lib.Ieee.{binary32};
 ghost use lib.ListN.{length};
 ghost use Rattle.bits.specs.Field.{bitOf};
-ghost use Rattle.meaning.specs.Step.{afterMarks};
+ghost use Rattle.machine.specs.declared.Machine.{Machine};
+ghost use Rattle.machine.specs.Machine.{withS};
+ghost use Rattle.machine.specs.Place.{state};
+ghost use Rattle.meaning.specs.Step.{after, afterMarks};
 ghost use Rattle.addresses.specs.Contiguous.{Contiguous};
 ghost use Rattle.memory.specs.LoadStore.{accessAt};
 ghost use Rattle.place_marks.specs.Word.{mapIn};
@@ -14,6 +17,8 @@ use bits::field::bit;
 use machine::address::plus;
 use machine::registers::Single;
 use machine::window::word_at;
+use memory::words::move_block;
+use memory::words::move_each;
 use place_marks::place::is_known;
 use place_marks::place::set_known;
 use place_marks::registers::mark_single;
@@ -22,8 +27,56 @@ use place_marks::window::byte_of;
 use place_marks::window::mark_word;
 use place_marks::window::word_known;
 
-// By bit 20 of the word a load or a store.
-pub(crate) fn mark_words(
+// The words and their marks, by bit 20 of the word loaded or stored.
+pub(crate) fn watched_words(
+    s: &mut [u32; 32],
+    window: &mut [u32],
+    marks: u64,
+    window_marks: &mut [u8],
+    base: u32,
+    op: u32,
+    start: u32,
+    first: Single,
+    count: u32,
+) -> u64
+    requires { ⌜ (first .0 < 32) × (count ≤ 510) ⌝ }
+    ensures { λ y. ⌜ ((q : Machine) → state (withS q (now (s .exit))) (now (window .exit)) ≡ after count (accessAt binary32 (bitOf op 20) base (first .0) start) (state (withS q (now (s .entry))) (now (window .entry)))) × (mapIn y (now («window_marks» .exit)) ≡ afterMarks count (accessAt binary32 (bitOf op 20) base (first .0) start) (mapIn marks (now («window_marks» .entry)))) ⌝ }
+{
+    // As in the plain run: nearly every transfer is contiguous. Each word of a window has a mark.
+    if (window.len() == window_marks.len())
+        & is_contiguous(window.len(), base, start, first, count)
+    {
+        let y = mark_block(marks, window_marks, base, op, start, first, count);
+        move_block(s, window, base, op, start, first, count);
+        return y;
+    }
+    let y = mark_each(marks, window_marks, base, op, start, first, count);
+    move_each(s, window, base, op, start, first, count);
+    y
+}
+
+// The marks of a contiguous transfer.
+fn mark_block(
+    marks: u64,
+    window_marks: &mut [u8],
+    base: u32,
+    op: u32,
+    start: u32,
+    first: Single,
+    count: u32,
+) -> u64
+    requires { ⌜ Contiguous (length (now «window_marks»)) base start (first .0) count ⌝ }
+    ensures { λ y. ⌜ mapIn y (now («window_marks» .exit)) ≡ afterMarks count (accessAt binary32 (bitOf op 20) base (first .0) start) (mapIn marks (now («window_marks» .entry))) ⌝ }
+{
+    if bit(op, 20) {
+        return mark_block_load(marks, &window_marks[..], base, start, first, count);
+    }
+    mark_block_store(marks, window_marks, base, start, first, count);
+    marks
+}
+
+// Those of any transfer, with a test of each word.
+fn mark_each(
     marks: u64,
     window_marks: &mut [u8],
     base: u32,
@@ -35,14 +88,6 @@ pub(crate) fn mark_words(
     requires { ⌜ (first .0 < 32) × (count ≤ 510) ⌝ }
     ensures { λ y. ⌜ mapIn y (now («window_marks» .exit)) ≡ afterMarks count (accessAt binary32 (bitOf op 20) base (first .0) start) (mapIn marks (now («window_marks» .entry))) ⌝ }
 {
-    // As the words themselves: nearly every transfer is contiguous.
-    if is_contiguous(window_marks.len(), base, start, first, count) {
-        if bit(op, 20) {
-            return mark_block_load(marks, &window_marks[..], base, start, first, count);
-        }
-        mark_block_store(marks, window_marks, base, start, first, count);
-        return marks;
-    }
     if bit(op, 20) {
         return mark_loads(marks, &window_marks[..], base, start, first, count);
     }
@@ -50,7 +95,6 @@ pub(crate) fn mark_words(
     marks
 }
 
-// The loops of a contiguous transfer: no word is tested on its own.
 fn mark_block_load(
     marks: u64,
     window_marks: &[u8],

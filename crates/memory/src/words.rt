@@ -36,13 +36,45 @@ pub(crate) fn move_words(
 {
     // Nearly every transfer is contiguous, and a loop without tests moves it. Any other is moved word by word.
     if is_contiguous(window.len(), base, start, first, count) {
-        if bit(op, 20) {
-            load_block(s, &window[..], base, start, first, count);
-            return;
-        }
-        store_block(s, window, base, start, first, count);
+        move_block(s, window, base, op, start, first, count);
         return;
     }
+    move_each(s, window, base, op, start, first, count);
+}
+
+// A contiguous transfer.
+pub fn move_block(
+    s: &mut [u32; 32],
+    window: &mut [u32],
+    base: u32,
+    op: u32,
+    start: u32,
+    first: Single,
+    count: u32,
+)
+    requires { ⌜ Contiguous (length (now window)) base start (first .0) count ⌝ }
+    ensures { λ _. ⌜ ((q : Machine) → state (withS q (now (s .exit))) (now (window .exit)) ≡ after count (accessAt binary32 (bitOf op 20) base (first .0) start) (state (withS q (now (s .entry))) (now (window .entry)))) ⌝ }
+{
+    if bit(op, 20) {
+        load_block(s, &window[..], base, start, first, count);
+        return;
+    }
+    store_block(s, window, base, start, first, count);
+}
+
+// Any transfer, with a test of each word.
+pub fn move_each(
+    s: &mut [u32; 32],
+    window: &mut [u32],
+    base: u32,
+    op: u32,
+    start: u32,
+    first: Single,
+    count: u32,
+)
+    requires { ⌜ (first .0 < 32) × (count ≤ 510) ⌝ }
+    ensures { λ _. ⌜ ((q : Machine) → state (withS q (now (s .exit))) (now (window .exit)) ≡ after count (accessAt binary32 (bitOf op 20) base (first .0) start) (state (withS q (now (s .entry))) (now (window .entry)))) ⌝ }
+{
     if bit(op, 20) {
         load_words(s, &window[..], base, start, first, count);
         return;
@@ -51,14 +83,7 @@ pub(crate) fn move_words(
 }
 
 // One word, by bit 20 from or to an address.
-pub(crate) fn move_word(
-    s: &mut [u32; 32],
-    window: &mut [u32],
-    base: u32,
-    op: u32,
-    address: u32,
-    x: Single,
-)
+pub fn move_word(s: &mut [u32; 32], window: &mut [u32], base: u32, op: u32, address: u32, x: Single)
     ensures { λ _. ⌜ ((q : Machine) → state (withS q (now (s .exit))) (now (window .exit)) ≡ step (accessStep binary32 (bitOf op 20) base (x .0) address) (state (withS q (now (s .entry))) (now (window .entry)))) ⌝ }
 {
     if bit(op, 20) {
@@ -70,7 +95,6 @@ pub(crate) fn move_word(
     write32(window, base, address, value);
 }
 
-// The loops of a contiguous transfer: no word is tested on its own.
 fn load_block(s: &mut [u32; 32], window: &[u32], base: u32, start: u32, first: Single, count: u32)
     requires { ⌜ Contiguous (length (now window)) base start (first .0) count ⌝ }
     ensures { λ _. ⌜ ((q : Machine) → state (withS q (now (s .exit))) (now (window .entry)) ≡ after count (accessAt binary32 true base (first .0) start) (state (withS q (now (s .entry))) (now (window .entry)))) ⌝ }

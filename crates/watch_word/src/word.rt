@@ -19,7 +19,7 @@ ghost use Rattle.run_word.specs.Word.{meaning};
 ghost use Rattle.run_word.specs.Stop.{nextOf};
 use super::class::WatchedClass;
 use super::class::enabled_watched_class;
-use access_marks::mark_load_store;
+use access_marks::watched_load_store;
 use bits::field::bit;
 use decoding::operation::numbered;
 use decoding::table::number;
@@ -118,8 +118,7 @@ fn watch_access(
             next: Next::Halt(Stop::Hangs(place)),
         },
         Hang::Clear => {
-            let known = mark_load_store(marks, window_marks, r, base, op);
-            memory::coprocessor_load_store(s, r, window, base, op);
+            let known = watched_load_store(s, r, window, marks, window_marks, base, op);
             Seen {
                 controls: x,
                 marks: known,
