@@ -1,5 +1,6 @@
 -- Which place a word hangs on, by the tests that the code makes.
-use Prim.Native.Nat.{ℕ}
+use Prim.Native.Nat.{ℕ, _<_}
+use native.Mathlib.Omega.{arith}
 use mathlib.Core.Path.{_≡_, refl, sym, _∙_}
 use mathlib.Core.List.{[], _∷_}
 use mathlib.Core.Bool.{true≢false}
@@ -17,7 +18,7 @@ use Rattle.meaning.specs.Tree.{Tree, go}
 use Rattle.meaning.specs.Hang.{Hang, clear, at, hangOf}
 use Rattle.decoding.specs.declared.operation.Operation.the-variants as O
 use Rattle.decoding.specs.declared.operation.Operation.{Operation}
-use Rattle.decoding.specs.Operation.{operationNumbered, operationOf}
+use Rattle.decoding.specs.Operation.{operationNumbered, operationOf, numberOf}
 use Rattle.decoding.proofs.operation.Operation.{the-type}
 use Rattle.decoding.proofs.Named.{one-of}
 use Rattle.meaning.proofs.Laws.{clear-go}
@@ -36,7 +37,7 @@ pub undefined : (thumb : Bool) (w : ℕ) (st : State) (μ : Map) → cond (known
 unfolding hangOf
 undefined thumb w st μ = refl
 
--- ---- where FPSCR 27:0 and r15 are known, no word of data processing hangs
+-- ---- where FPSCR 27:0 is known, no word of data processing hangs that is defined, and where r15 is known too, none does
 
 pub both : (a b : Bool) → (a && b) ≡ true → (a ≡ true) × (b ≡ true)
 both true b e = (refl, e)
@@ -45,40 +46,48 @@ both false b e = (e, absurd (true≢false (sym e)))
 picked : (b : Bool) (x : Hang) → b ≡ true → clear ≡ cond b clear x
 picked b x e = rw e
 
-module _ (st : State) (μ : Map) (p : known μ control ≡ true) (q : known μ (core 15) ≡ true) where
+module _ (st : State) (μ : Map) (p : known μ control ≡ true) where
   stepping-known : (f : Format) (d : ℕ) (each : ℕ → ℕ → Step) → clear ≡ hangOf (stepping f d each) st μ
   stepping-known f d each = picked (known μ control) (at (number control)) p ∙ steps f d each st μ
 
+  -- where an Undefined word does not hang, no operation does
+  operation-known : (f : Format) (w : ℕ) (o : Operation) → (o ≡ O.Undefined → clear ≡ hangOf (undefinedTree false w) st μ) → clear ≡ hangOf (operationTree false f w o) st μ
+  unfolding operationTree
+  operation-known f w O.Fmac h = stepping-known f (regD f w) _
+  operation-known f w O.Fnmac h = stepping-known f (regD f w) _
+  operation-known f w O.Fmsc h = stepping-known f (regD f w) _
+  operation-known f w O.Fnmsc h = stepping-known f (regD f w) _
+  operation-known f w O.Fmul h = stepping-known f (regD f w) _
+  operation-known f w O.Fnmul h = stepping-known f (regD f w) _
+  operation-known f w O.Fadd h = stepping-known f (regD f w) _
+  operation-known f w O.Fsub h = stepping-known f (regD f w) _
+  operation-known f w O.Fdiv h = stepping-known f (regD f w) _
+  operation-known f w O.Fcpy h = stepping-known f (regD f w) _
+  operation-known f w O.Fabs h = stepping-known f (regD f w) _
+  operation-known f w O.Fneg h = stepping-known f (regD f w) _
+  operation-known f w O.Fsqrt h = stepping-known f (regD f w) _
+  operation-known f w O.Fcmp h = clear-go _ st μ
+  operation-known f w O.Fcmpe h = clear-go _ st μ
+  operation-known f w O.Fcmpz h = clear-go _ st μ
+  operation-known f w O.Fcmpez h = clear-go _ st μ
+  operation-known f w O.Fcvt h = clear-go _ st μ
+  operation-known f w O.Fuito h = clear-go _ st μ
+  operation-known f w O.Fsito h = clear-go _ st μ
+  operation-known f w O.Ftoui h = clear-go _ st μ
+  operation-known f w O.Ftouiz h = clear-go _ st μ
+  operation-known f w O.Ftosi h = clear-go _ st μ
+  operation-known f w O.Ftosiz h = clear-go _ st μ
+  operation-known f w O.Undefined h = h refl
+
+  pub defined-known : (f : Format) (w : ℕ) (o : Operation) → 0 < numberOf o → clear ≡ hangOf (operationTree false f w o) st μ
+  defined-known f w o h = operation-known f w o (λ e. absurd (none (rw e at h)))
+    where
+      none : 0 < 0 → ⊥
+      none g = omega arith
+
+module _ (st : State) (μ : Map) (p : known μ control ≡ true) (q : known μ (core 15) ≡ true) where
   undefined-known : (w : ℕ) → clear ≡ hangOf (undefinedTree false w) st μ
   undefined-known w = picked (known μ (core 15)) (at (number (core 15))) q ∙ undefined false w st μ
-
-  operation-known : (f : Format) (w : ℕ) (o : Operation) → clear ≡ hangOf (operationTree false f w o) st μ
-  unfolding operationTree
-  operation-known f w O.Fmac = stepping-known f (regD f w) _
-  operation-known f w O.Fnmac = stepping-known f (regD f w) _
-  operation-known f w O.Fmsc = stepping-known f (regD f w) _
-  operation-known f w O.Fnmsc = stepping-known f (regD f w) _
-  operation-known f w O.Fmul = stepping-known f (regD f w) _
-  operation-known f w O.Fnmul = stepping-known f (regD f w) _
-  operation-known f w O.Fadd = stepping-known f (regD f w) _
-  operation-known f w O.Fsub = stepping-known f (regD f w) _
-  operation-known f w O.Fdiv = stepping-known f (regD f w) _
-  operation-known f w O.Fcpy = stepping-known f (regD f w) _
-  operation-known f w O.Fabs = stepping-known f (regD f w) _
-  operation-known f w O.Fneg = stepping-known f (regD f w) _
-  operation-known f w O.Fsqrt = stepping-known f (regD f w) _
-  operation-known f w O.Fcmp = clear-go _ st μ
-  operation-known f w O.Fcmpe = clear-go _ st μ
-  operation-known f w O.Fcmpz = clear-go _ st μ
-  operation-known f w O.Fcmpez = clear-go _ st μ
-  operation-known f w O.Fcvt = clear-go _ st μ
-  operation-known f w O.Fuito = clear-go _ st μ
-  operation-known f w O.Fsito = clear-go _ st μ
-  operation-known f w O.Ftoui = clear-go _ st μ
-  operation-known f w O.Ftouiz = clear-go _ st μ
-  operation-known f w O.Ftosi = clear-go _ st μ
-  operation-known f w O.Ftosiz = clear-go _ st μ
-  operation-known f w O.Undefined = undefined-known w
 
   pub data-known : (w : ℕ) → clear ≡ hangOf (dataTree false w) st μ
   unfolding dataTree
@@ -86,8 +95,8 @@ module _ (st : State) (μ : Map) (p : known μ control ≡ true) (q : known μ (
     where
       by : (a b : Bool)
           → clear ≡ hangOf (cond a (operationTree false binary32 w (operationOf w)) (cond b (operationTree false binary64 w (operationOf w)) (undefinedTree false w))) st μ
-      by true b = operation-known binary32 w (operationOf w)
-      by false true = operation-known binary64 w (operationOf w)
+      by true b = operation-known st μ p binary32 w (operationOf w) (λ e. undefined-known w)
+      by false true = operation-known st μ p binary64 w (operationOf w) (λ e. undefined-known w)
       by false false = undefined-known w
 
 -- ---- by the operation

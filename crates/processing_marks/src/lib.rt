@@ -1,4 +1,5 @@
 // The marks of data processing: the watched run's half beside crate processing.
+pub mod step;
 pub mod vector;
 mod word;
 
@@ -10,17 +11,15 @@ ghost use Rattle.processing_marks.specs.Marked.{Marked};
 use bits::field::bits;
 use decoding::operation::Operation;
 use decoding::operation::arithmetic_of;
-use machine::place::FLAGS;
-use place_marks::place::set_known;
-use word::d_known;
-use word::m_known;
+use step::mark_compare;
+use step::mark_compare_zero;
+use step::mark_convert;
+use step::mark_from_integer;
+use step::mark_rounded;
+use step::mark_truncated;
 use word::mark_arithmetic;
-use word::mark_convert;
-use word::mark_from_integer;
-use word::mark_root;
-use word::mark_rounded;
-use word::mark_sign;
-use word::mark_truncated;
+use word::mark_roots;
+use word::mark_signs;
 
 pub fn mark_data(marks: u64, fpscr: u32, o: Operation, op: u32) -> u64
     requires { ⌜ o ≡ operationOf op ⌝ }
@@ -57,18 +56,11 @@ fn mark_operation(marks: u64, fpscr: u32, double: bool, o: Operation, op: u32) -
             op,
         ),
         Operation::Fcpy | Operation::Fabs | Operation::Fneg => {
-            mark_sign(marks, fpscr % 0x1000_0000, double, op)
+            mark_signs(marks, fpscr % 0x1000_0000, double, op)
         }
-        Operation::Fsqrt => mark_root(marks, fpscr % 0x1000_0000, double, op),
-        // from both operands, with zero from one
-        Operation::Fcmp | Operation::Fcmpe => {
-            let all = m_known(marks, double, op) & d_known(marks, double, op);
-            set_known(marks, FLAGS, all)
-        }
-        Operation::Fcmpz | Operation::Fcmpez => {
-            let all = d_known(marks, double, op);
-            set_known(marks, FLAGS, all)
-        }
+        Operation::Fsqrt => mark_roots(marks, fpscr % 0x1000_0000, double, op),
+        Operation::Fcmp | Operation::Fcmpe => mark_compare(marks, double, op),
+        Operation::Fcmpz | Operation::Fcmpez => mark_compare_zero(marks, double, op),
         Operation::Fcvt => mark_convert(marks, double, op),
         Operation::Fuito | Operation::Fsito => mark_from_integer(marks, double, op),
         Operation::Ftoui | Operation::Ftosi => mark_rounded(marks, double, op),

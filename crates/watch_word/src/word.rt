@@ -17,6 +17,7 @@ ghost use Rattle.memory.specs.LoadStore.{loadStoreTree};
 ghost use Rattle.transfers.specs.Transfer.{transferTree};
 ghost use Rattle.run_word.specs.Word.{meaning};
 ghost use Rattle.run_word.specs.Stop.{nextOf};
+ghost use Rattle.run_word.specs.declared.Next.the-variants.{On};
 use super::class::WatchedClass;
 use super::class::enabled_watched_class;
 use access_marks::watched_load_store;
@@ -42,6 +43,8 @@ use transfers::transfer_of;
 use vfp::current_pc;
 use watched_scalars::watched_double;
 use watched_scalars::watched_single;
+use watched_unary_doubles::watch_double;
+use watched_unary_singles::watch_single;
 
 // What is no array of the machine, the marks and what follows, after a word.
 pub struct Seen {
@@ -165,7 +168,7 @@ fn watch_transfer(s: &mut [u32; 32], r: &mut [u32; 16], x: Controls, marks: u64,
     }
 }
 
-// Data processing hangs on r15 where it is Undefined, and on FPSCR 27:0 where it steps. Arithmetic of scalars needs no loop, for its marks neither.
+// Data processing hangs on r15 where it is Undefined, and on FPSCR 27:0 where it steps. A scalar, where LEN is 0, needs no loop, for its marks neither.
 fn watch_data(
     table: &[u8; 1024],
     s: &mut [u32; 32],
@@ -191,20 +194,9 @@ fn watch_data(
         },
         Hang::Clear => {
             let known = mark_data(marks, x.fpscr, o, op);
-            let done = processing::process(table, s, x.fpscr, op);
-            match done {
-                Processed::Done(fpscr) => {
-                    let cpsr = x.cpsr;
-                    Seen {
-                        controls: Controls {
-                            fpscr,
-                            fpexc: x.fpexc,
-                            cpsr,
-                        },
-                        marks: known,
-                        next: Next::On,
-                    }
-                }
+            let after = processing::process(table, s, x.fpscr, op);
+            match after {
+                Processed::Done(fpscr) => done(x, fpscr, known),
                 Processed::Undefined => {
                     let pc = current_pc(r[15], false);
                     Seen {
@@ -218,14 +210,11 @@ fn watch_data(
     }
 }
 
-// Whether the word is arithmetic that makes one iteration and does not hang.
+// Whether the word is defined, makes one iteration and does not hang.
 fn is_scalar(marks: u64, fpscr: u32, n: u8) -> bool
-    ensures { λ b. ⌜ (b ≡ true → (0 < n) × (n < 10) × (fpscr / 2 ^ 16 % 8 ≡ 0) × ((w : List ℕ) → known (mapIn marks w) control ≡ true)) ⌝ }
+    ensures { λ b. ⌜ (b ≡ true → (0 < n) × (fpscr / 2 ^ 16 % 8 ≡ 0) × ((w : List ℕ) → known (mapIn marks w) control ≡ true)) ⌝ }
 {
     if n == 0 {
-        return false;
-    }
-    if n > 9 {
         return false;
     }
     if fpscr / 0x1_0000 % 8 != 0 {
@@ -234,23 +223,40 @@ fn is_scalar(marks: u64, fpscr: u32, n: u8) -> bool
     is_known(marks, CONTROL)
 }
 
-// Arithmetic of scalars, with its marks made beside it.
+// A scalar with its marks made beside it, by the number of its operation as in the plain run.
 fn watch_scalar(s: &mut [u32; 32], x: Controls, marks: u64, n: u8, op: u32) -> Seen
-    requires { ⌜ (n ≡ numberOf (operationOf op)) × (field op 9 11 ≡ 0b101) × (0 < n) × (n < 10) × (x .fpscr / 2 ^ 16 % 8 ≡ 0) × ((w : List ℕ) → known (mapIn marks w) control ≡ true) ⌝ }
+    requires { ⌜ (n ≡ numberOf (operationOf op)) × (field op 9 11 ≡ 0b101) × (0 < n) × (x .fpscr / 2 ^ 16 % 8 ≡ 0) × ((w : List ℕ) → known (mapIn marks w) control ≡ true) ⌝ }
     ensures { λ e. ⌜ ((r v w : List ℕ) → seen (state (assembled (now (s .exit)) r (e .controls) false) v) (mapIn (e .marks) w) (nextOf (e .next)) ≡ watched (dataTree false op) (state (assembled (now (s .entry)) r x false) v) (mapIn marks w)) ⌝ }
 {
-    if bit(op, 8) {
-        let known = watched_double(s, marks, x.fpscr, n, op);
-        return Seen {
-            controls: x,
-            marks: known,
-            next: Next::On,
-        };
+    let fpscr = x.fpscr;
+    if n < 10 {
+        if bit(op, 8) {
+            let known = watched_double(s, marks, fpscr, n, op);
+            return done(x, fpscr, known);
+        }
+        let known = watched_single(s, marks, fpscr, n, op);
+        return done(x, fpscr, known);
     }
-    let known = watched_single(s, marks, x.fpscr, n, op);
+    if bit(op, 8) {
+        let y = watch_double(s, marks, fpscr, op, numbered(n));
+        return done(x, y.fpscr, y.marks);
+    }
+    let y = watch_single(s, marks, fpscr, op, numbered(n));
+    done(x, y.fpscr, y.marks)
+}
+
+// The run goes on, with FPSCR and the marks as the word left them.
+fn done(x: Controls, fpscr: u32, marks: u64) -> Seen
+    ensures { λ e. ⌜ (e .controls ≡ record { fpscr = fpscr; fpexc = x .fpexc; cpsr = x .cpsr }) × (e .marks ≡ marks) × (e .next ≡ On) ⌝ }
+{
+    let cpsr = x.cpsr;
     Seen {
-        controls: x,
-        marks: known,
+        controls: Controls {
+            fpscr,
+            fpexc: x.fpexc,
+            cpsr,
+        },
+        marks,
         next: Next::On,
     }
 }

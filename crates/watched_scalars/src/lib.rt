@@ -19,6 +19,18 @@ use decoding::operation::numbered;
 use processing_marks::vector::mark_sum_double;
 use processing_marks::vector::mark_sum_single;
 
+// FPSCR and the marks after a word that may change both: a unary word, compare or conversion.
+pub struct Watched {
+    pub fpscr: u32,
+    pub marks: u64,
+}
+
+pub fn after(fpscr: u32, marks: u64) -> Watched
+    ensures { λ y. ⌜ y ≡ record { fpscr = fpscr; marks = marks } ⌝ }
+{
+    Watched { fpscr, marks }
+}
+
 pub fn watched_single(s: &mut [u32; 32], marks: u64, fpscr: u32, number: u8, op: u32) -> u64
     requires { ⌜ (0 < number) × (number < 10) × (fpscr / 2 ^ 16 % 8 ≡ 0) ⌝ }
     ensures { λ y. ⌜ Handled (namedTree binary32 op (operationNumbered number)) op (now (s .entry)) fpscr (now (s .exit)) (Done fpscr) × Marked (namedTree binary32 op (operationNumbered number)) fpscr marks y ⌝ }

@@ -13,14 +13,11 @@ returns c = λ e. absurd (true≢false (sym e))
 returns-2 : tie.Need-returns-2
 returns-2 c = λ e. absurd (true≢false (sym e))
 
-returns-3 : tie.Need-returns-3
-returns-3 c = λ e. absurd (true≢false (sym e))
-
 is-known-requires : tie.Need-is-known-requires
 is-known-requires c κs = search needs
 
-returns-4 : tie.Need-returns-4
-returns-4 c = λ e. (omega arith, omega arith, omega arith, λ w. sym (rw place-control at (c .is-known .ensures w)) ∙ e)
+returns-3 : tie.Need-returns-3
+returns-3 c = λ e. (omega arith, omega arith, λ w. sym (rw place-control at (c .is-known .ensures w)) ∙ e)
 
 pub is-scalar-spec : {M : Type 1} → statement M
-is-scalar-spec = tie.close (tie.spec returns returns-2 returns-3 is-known-requires returns-4)
+is-scalar-spec = tie.close (tie.spec returns returns-2 is-known-requires returns-3)

@@ -20,7 +20,7 @@ is-scalar-requires : tie.Need-is-scalar-requires
 is-scalar-requires c κs = search needs
 
 watch-scalar-requires : tie.Need-watch-scalar-requires
-watch-scalar-requires c κs = let known = c .before .before .is-scalar .ensures (c .before .if1 .taken) in (c .before .before .before .number .ensures, c .before .before .before .before .pre .1, known .0, known .1, known .2, known .3)
+watch-scalar-requires c κs = let known = c .before .before .is-scalar .ensures (c .before .if1 .taken) in (c .before .before .before .number .ensures, c .before .before .before .before .pre .1, known .0, known .1, known .2)
 
 returns : tie.Need-returns
 returns c = λ v w. c .watch-scalar .ensures (now (c .before .before .before .before .before .args .r)) v w
@@ -43,8 +43,11 @@ mark-data-requires c κs = the-operation (c .before .before .before .before .bef
 process-requires : tie.Need-process-requires
 process-requires c κs = search needs
 
-enum-known-done : tie.Need-enum-known-done
-enum-known-done c = search needs
+enum-known-after : tie.Need-enum-known-after
+enum-known-after c = search needs
+
+done-requires : tie.Need-done-requires
+done-requires c κs = search needs
 
 enum-told-2 : tie.Need-enum-told-2
 enum-told-2 c = search needs
@@ -59,7 +62,7 @@ returns-2 : tie.Need-returns-2
 returns-2 c = let a = c .before .before .before .before .before .before .before .before .args in λ v w. hanging (dataTree false (a .op)) (state (assembled (now (a .s)) (now (a .r)) (a .x) false) v) (mapIn (a .marks) w) _ (rw (c .before .hang .given .1) at (c .before .before .before .hang-data .ensures (state (assembled (now (a .s)) (now (a .r)) (a .x) false) v) w))
 
 returns-3 : tie.Need-returns-3
-returns-3 c = let a = c .before .before .before .before .before .before .before .before .before .before .before .before .before .before .args in λ v w. not-hanging (dataTree false (a .op)) (state (assembled (now (a .s)) (now (a .r)) (a .x) false) v) _ (mapIn (a .marks) w) _ on (rw (c .before .before .before .before .before .before .before .enum-told .given .1) at (c .before .before .before .before .before .before .before .before .before .hang-data .ensures (state (assembled (now (a .s)) (now (a .r)) (a .x) false) v) w)) (data-done (a .op) (now (a .s)) (now (a .r)) (a .x) _ (c .before .before .before .before .process .result) (c .before .before .before .before .process .ensures) v _ (c .before .before .done .given .1)) (c .before .before .before .before .before .before .mark-data .ensures false (assembled (now (a .s)) (now (a .r)) (a .x) false) v w)
+returns-3 c = let a = c .before .before .before .before .before .before .before .before .before .before .before .before .before .before .args in λ v w. rw (c .done .ensures .0, c .done .ensures .1, c .done .ensures .2) (not-hanging (dataTree false (a .op)) (state (assembled (now (a .s)) (now (a .r)) (a .x) false) v) _ (mapIn (a .marks) w) _ on (rw (c .before .before .before .before .before .before .before .enum-told .given .1) at (c .before .before .before .before .before .before .before .before .before .hang-data .ensures (state (assembled (now (a .s)) (now (a .r)) (a .x) false) v) w)) (data-done (a .op) (now (a .s)) (now (a .r)) (a .x) _ (c .before .before .before .before .process .result) (c .before .before .before .before .process .ensures) v _ (c .before .before .after .given .1)) (c .before .before .before .before .before .before .mark-data .ensures false (assembled (now (a .s)) (now (a .r)) (a .x) false) v w))
 
 returns-4 : tie.Need-returns-4
 returns-4 c = let a = c .before .before .before .before .before .before .before .before .before .before .before .before .before .before .args in λ v w. not-hanging (dataTree false (a .op)) (state (assembled (now (a .s)) (now (a .r)) (a .x) false) v) _ (mapIn (a .marks) w) _ _ (rw (c .before .before .before .before .before .before .before .enum-told .given .1) at (c .before .before .before .before .before .before .before .before .before .hang-data .ensures (state (assembled (now (a .s)) (now (a .r)) (a .x) false) v) w)) (data-undefined (a .op) (now (a .s)) (now (a .r)) (a .x) _ (c .before .before .before .before .process .result) (c .before .before .before .before .process .ensures) v _ (c .before .before .enum-told2 .given .1) (c .current-pc .ensures)) (c .before .before .before .before .before .before .mark-data .ensures false (assembled (now (a .s)) (now (a .r)) (a .x) false) v w)
@@ -78,7 +81,8 @@ watch-data-spec =
     enum-told
     mark-data-requires
     process-requires
-    enum-known-done
+    enum-known-after
+    done-requires
     enum-told-2
     element-copy-out-current-pc
     current-pc-requires

@@ -1,12 +1,12 @@
--- `processing_marks::word::mark_from_integer` meets its contract.
+-- `processing_marks::step::mark_from_integer` meets its contract.
 use mathlib.Core.Path.{sym, _∙_}
 use lib.Ieee.{binary32, binary64}
 use Rattle.place_marks.specs.Word.{mapIn}
 use Rattle.decoding.specs.Fields.{regD, regM}
 use Rattle.processing_marks.proofs.Steps.{from-marks}
 use borrow.Author.Needs.{needs}
-use Rattle.processing_marks.proofs.word.mark_from_integer.Statement.{statement}
-use Rattle.processing_marks.proofs.word.mark_from_integer.Tie as tie
+use Rattle.processing_marks.proofs.step.mark_from_integer.Statement.{statement}
+use Rattle.processing_marks.proofs.step.mark_from_integer.Tie as tie
 
 pub mark-from-integer-spec : {M : Type 1} → statement M
 mark-from-integer-spec =

@@ -1,7 +1,7 @@
--- `processing_marks::word::d_known` meets its contract.
+-- `processing_marks::step::d_known` meets its contract.
 use borrow.Author.Needs.{needs}
-use Rattle.processing_marks.proofs.word.d_known.Statement.{statement}
-use Rattle.processing_marks.proofs.word.d_known.Tie as tie
+use Rattle.processing_marks.proofs.step.d_known.Statement.{statement}
+use Rattle.processing_marks.proofs.step.d_known.Tie as tie
 
 pub d-known-spec : {M : Type 1} → statement M
 d-known-spec =

@@ -1,4 +1,4 @@
--- `processing_marks::word::mark_rounded` meets its contract.
+-- `processing_marks::step::mark_rounded` meets its contract.
 use mathlib.Core.Path.{sym, _∙_}
 use lib.Ieee.{binary32}
 use Rattle.place_marks.specs.Word.{mapIn}
@@ -7,8 +7,8 @@ use Rattle.place_marks.proofs.Places.{place-control}
 use Rattle.short_vectors.specs.Vector.{precision}
 use Rattle.processing_marks.proofs.Steps.{round-marks}
 use borrow.Author.Needs.{needs}
-use Rattle.processing_marks.proofs.word.mark_rounded.Statement.{statement}
-use Rattle.processing_marks.proofs.word.mark_rounded.Tie as tie
+use Rattle.processing_marks.proofs.step.mark_rounded.Statement.{statement}
+use Rattle.processing_marks.proofs.step.mark_rounded.Tie as tie
 
 pub mark-rounded-spec : {M : Type 1} → statement M
 mark-rounded-spec =

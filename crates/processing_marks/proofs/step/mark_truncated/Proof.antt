@@ -1,4 +1,4 @@
--- `processing_marks::word::mark_truncated` meets its contract.
+-- `processing_marks::step::mark_truncated` meets its contract.
 use mathlib.Core.Path.{sym, _∙_}
 use lib.Ieee.{binary32}
 use Rattle.place_marks.specs.Word.{mapIn}
@@ -6,8 +6,8 @@ use Rattle.decoding.specs.Fields.{regD, regM}
 use Rattle.short_vectors.specs.Vector.{precision}
 use Rattle.processing_marks.proofs.Steps.{truncate-marks}
 use borrow.Author.Needs.{needs}
-use Rattle.processing_marks.proofs.word.mark_truncated.Statement.{statement}
-use Rattle.processing_marks.proofs.word.mark_truncated.Tie as tie
+use Rattle.processing_marks.proofs.step.mark_truncated.Statement.{statement}
+use Rattle.processing_marks.proofs.step.mark_truncated.Tie as tie
 
 pub mark-truncated-spec : {M : Type 1} → statement M
 mark-truncated-spec =

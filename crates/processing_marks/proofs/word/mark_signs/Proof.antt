@@ -1,13 +1,13 @@
--- `processing_marks::word::mark_sign` meets its contract.
+-- `processing_marks::word::mark_signs` meets its contract.
 use lib.Ieee.{binary32, binary64}
 use Rattle.steps.specs.Sign.{signStep}
 use Rattle.processing_marks.proofs.Steps.{sign-copies}
 use borrow.Author.Needs.{needs}
-use Rattle.processing_marks.proofs.word.mark_sign.Statement.{statement}
-use Rattle.processing_marks.proofs.word.mark_sign.Tie as tie
+use Rattle.processing_marks.proofs.word.mark_signs.Statement.{statement}
+use Rattle.processing_marks.proofs.word.mark_signs.Tie as tie
 
-pub mark-sign-spec : {M : Type 1} → statement M
-mark-sign-spec =
+pub mark-signs-spec : {M : Type 1} → statement M
+mark-signs-spec =
     tie.close
     (tie.spec
     (λ c κs. search needs)

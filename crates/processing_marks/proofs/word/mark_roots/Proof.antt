@@ -1,13 +1,13 @@
--- `processing_marks::word::mark_root` meets its contract.
+-- `processing_marks::word::mark_roots` meets its contract.
 use lib.Ieee.{binary32}
 use Rattle.steps.specs.Root.{rootStep}
 use Rattle.processing_marks.proofs.Steps.{root-copies}
 use borrow.Author.Needs.{needs}
-use Rattle.processing_marks.proofs.word.mark_root.Statement.{statement}
-use Rattle.processing_marks.proofs.word.mark_root.Tie as tie
+use Rattle.processing_marks.proofs.word.mark_roots.Statement.{statement}
+use Rattle.processing_marks.proofs.word.mark_roots.Tie as tie
 
-pub mark-root-spec : {M : Type 1} → statement M
-mark-root-spec =
+pub mark-roots-spec : {M : Type 1} → statement M
+mark-roots-spec =
     tie.close
     (tie.spec
     (λ c κs. search needs)

@@ -1,7 +1,7 @@
--- `processing_marks::word::m_known` meets its contract.
+-- `processing_marks::step::m_known` meets its contract.
 use borrow.Author.Needs.{needs}
-use Rattle.processing_marks.proofs.word.m_known.Statement.{statement}
-use Rattle.processing_marks.proofs.word.m_known.Tie as tie
+use Rattle.processing_marks.proofs.step.m_known.Statement.{statement}
+use Rattle.processing_marks.proofs.step.m_known.Tie as tie
 
 pub m-known-spec : {M : Type 1} → statement M
 m-known-spec =

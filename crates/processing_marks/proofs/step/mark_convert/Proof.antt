@@ -1,4 +1,4 @@
--- `processing_marks::word::mark_convert` meets its contract.
+-- `processing_marks::step::mark_convert` meets its contract.
 use mathlib.Core.Path.{sym, _∙_}
 use lib.Ieee.{binary32, binary64}
 use Rattle.place_marks.specs.Word.{mapIn}
@@ -6,8 +6,8 @@ use Rattle.decoding.specs.Fields.{regD, regM}
 use Rattle.place_marks.proofs.Places.{place-control}
 use Rattle.processing_marks.proofs.Steps.{narrow-marks, widen-marks}
 use borrow.Author.Needs.{needs}
-use Rattle.processing_marks.proofs.word.mark_convert.Statement.{statement}
-use Rattle.processing_marks.proofs.word.mark_convert.Tie as tie
+use Rattle.processing_marks.proofs.step.mark_convert.Statement.{statement}
+use Rattle.processing_marks.proofs.step.mark_convert.Tie as tie
 
 pub mark-convert-spec : {M : Type 1} → statement M
 mark-convert-spec =

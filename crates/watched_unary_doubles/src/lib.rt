@@ -1,0 +1,93 @@
+// The unary words, compares and conversions of coprocessor 11 in the watched run, where LEN is 0: as in crate unary_doubles, with the marks beside them.
+ghost use mathlib.Core.Path.{_≡_};
+ghost use Prim.Native.Nat.{_/_, _%_, _^_, _<_};
+ghost use lib.Ieee.{binary64};
+ghost use Rattle.decoding.specs.Operation.{numberOf};
+ghost use Rattle.processing.specs.Data.{Handled, namedTree};
+ghost use Rattle.processing.specs.declared.Processed.the-variants.{Done};
+ghost use Rattle.processing_marks.specs.Marked.{Marked};
+use conversions::integer::from_integer_double;
+use conversions::integer::round_double;
+use conversions::integer::truncate_double;
+use conversions::width::narrow_double;
+use decoding::fields::double_d;
+use decoding::fields::double_m;
+use decoding::fields::single_d;
+use decoding::fields::single_m;
+use decoding::operation::Operation;
+use processing_marks::step::mark_compare;
+use processing_marks::step::mark_compare_zero;
+use processing_marks::step::mark_convert;
+use processing_marks::step::mark_from_integer;
+use processing_marks::step::mark_root;
+use processing_marks::step::mark_rounded;
+use processing_marks::step::mark_sign;
+use processing_marks::step::mark_truncated;
+use steps::compare::compare_double;
+use steps::compare::compare_double_zero;
+use steps::root::root_double;
+use steps::sign::SignOperation;
+use steps::sign::sign_double;
+use watched_scalars::Watched;
+use watched_scalars::after;
+
+pub fn watch_double(s: &mut [u32; 32], marks: u64, fpscr: u32, op: u32, o: Operation) -> Watched
+    requires { ⌜ (9 < numberOf o) × (fpscr / 2 ^ 16 % 8 ≡ 0) ⌝ }
+    ensures { λ y. ⌜ Handled (namedTree binary64 op o) op (now (s .entry)) fpscr (now (s .exit)) (Done (y .fpscr)) × Marked (namedTree binary64 op o) fpscr marks (y .marks) ⌝ }
+{
+    match o {
+        Operation::Fcpy => {
+            sign_double(s, SignOperation::Copy, double_d(op), double_m(op));
+            after(fpscr, mark_sign(marks, true, op))
+        }
+        Operation::Fabs => {
+            sign_double(s, SignOperation::Absolute, double_d(op), double_m(op));
+            after(fpscr, mark_sign(marks, true, op))
+        }
+        Operation::Fneg => {
+            sign_double(s, SignOperation::Negate, double_d(op), double_m(op));
+            after(fpscr, mark_sign(marks, true, op))
+        }
+        Operation::Fsqrt => {
+            root_double(s, double_d(op), double_m(op));
+            after(fpscr, mark_root(marks, true, op))
+        }
+        Operation::Fcmp | Operation::Fcmpe => {
+            let next = compare_double(s, fpscr, double_d(op), double_m(op));
+            after(next, mark_compare(marks, true, op))
+        }
+        Operation::Fcmpz | Operation::Fcmpez => {
+            let next = compare_double_zero(s, fpscr, double_d(op));
+            after(next, mark_compare_zero(marks, true, op))
+        }
+        Operation::Fcvt => {
+            narrow_double(s, fpscr, single_d(op), double_m(op));
+            after(fpscr, mark_convert(marks, true, op))
+        }
+        Operation::Fuito => {
+            from_integer_double(s, false, double_d(op), single_m(op));
+            after(fpscr, mark_from_integer(marks, true, op))
+        }
+        Operation::Fsito => {
+            from_integer_double(s, true, double_d(op), single_m(op));
+            after(fpscr, mark_from_integer(marks, true, op))
+        }
+        Operation::Ftoui => {
+            round_double(s, fpscr, false, single_d(op), double_m(op));
+            after(fpscr, mark_rounded(marks, true, op))
+        }
+        Operation::Ftouiz => {
+            truncate_double(s, false, single_d(op), double_m(op));
+            after(fpscr, mark_truncated(marks, true, op))
+        }
+        Operation::Ftosi => {
+            round_double(s, fpscr, true, single_d(op), double_m(op));
+            after(fpscr, mark_rounded(marks, true, op))
+        }
+        Operation::Ftosiz => {
+            truncate_double(s, true, single_d(op), double_m(op));
+            after(fpscr, mark_truncated(marks, true, op))
+        }
+        _ => after(fpscr, marks), // no unary word
+    }
+}

@@ -1,0 +1,92 @@
+// The unary words, compares and conversions of coprocessor 10 in the watched run, where LEN is 0: as in crate unary_singles, with the marks beside them.
+ghost use mathlib.Core.Path.{_≡_};
+ghost use Prim.Native.Nat.{_/_, _%_, _^_, _<_};
+ghost use lib.Ieee.{binary32};
+ghost use Rattle.decoding.specs.Operation.{numberOf};
+ghost use Rattle.processing.specs.Data.{Handled, namedTree};
+ghost use Rattle.processing.specs.declared.Processed.the-variants.{Done};
+ghost use Rattle.processing_marks.specs.Marked.{Marked};
+use conversions::integer::from_integer_single;
+use conversions::integer::round_single;
+use conversions::integer::truncate_single;
+use conversions::width::widen_single;
+use decoding::fields::double_d;
+use decoding::fields::single_d;
+use decoding::fields::single_m;
+use decoding::operation::Operation;
+use processing_marks::step::mark_compare;
+use processing_marks::step::mark_compare_zero;
+use processing_marks::step::mark_convert;
+use processing_marks::step::mark_from_integer;
+use processing_marks::step::mark_root;
+use processing_marks::step::mark_rounded;
+use processing_marks::step::mark_sign;
+use processing_marks::step::mark_truncated;
+use steps::compare::compare_single;
+use steps::compare::compare_single_zero;
+use steps::root::root_single;
+use steps::sign::SignOperation;
+use steps::sign::sign_single;
+use watched_scalars::Watched;
+use watched_scalars::after;
+
+pub fn watch_single(s: &mut [u32; 32], marks: u64, fpscr: u32, op: u32, o: Operation) -> Watched
+    requires { ⌜ (9 < numberOf o) × (fpscr / 2 ^ 16 % 8 ≡ 0) ⌝ }
+    ensures { λ y. ⌜ Handled (namedTree binary32 op o) op (now (s .entry)) fpscr (now (s .exit)) (Done (y .fpscr)) × Marked (namedTree binary32 op o) fpscr marks (y .marks) ⌝ }
+{
+    match o {
+        Operation::Fcpy => {
+            sign_single(s, SignOperation::Copy, single_d(op), single_m(op));
+            after(fpscr, mark_sign(marks, false, op))
+        }
+        Operation::Fabs => {
+            sign_single(s, SignOperation::Absolute, single_d(op), single_m(op));
+            after(fpscr, mark_sign(marks, false, op))
+        }
+        Operation::Fneg => {
+            sign_single(s, SignOperation::Negate, single_d(op), single_m(op));
+            after(fpscr, mark_sign(marks, false, op))
+        }
+        Operation::Fsqrt => {
+            root_single(s, single_d(op), single_m(op));
+            after(fpscr, mark_root(marks, false, op))
+        }
+        Operation::Fcmp | Operation::Fcmpe => {
+            let next = compare_single(s, fpscr, single_d(op), single_m(op));
+            after(next, mark_compare(marks, false, op))
+        }
+        Operation::Fcmpz | Operation::Fcmpez => {
+            let next = compare_single_zero(s, fpscr, single_d(op));
+            after(next, mark_compare_zero(marks, false, op))
+        }
+        Operation::Fcvt => {
+            widen_single(s, double_d(op), single_m(op));
+            after(fpscr, mark_convert(marks, false, op))
+        }
+        Operation::Fuito => {
+            from_integer_single(s, false, single_d(op), single_m(op));
+            after(fpscr, mark_from_integer(marks, false, op))
+        }
+        Operation::Fsito => {
+            from_integer_single(s, true, single_d(op), single_m(op));
+            after(fpscr, mark_from_integer(marks, false, op))
+        }
+        Operation::Ftoui => {
+            round_single(s, fpscr, false, single_d(op), single_m(op));
+            after(fpscr, mark_rounded(marks, false, op))
+        }
+        Operation::Ftouiz => {
+            truncate_single(s, false, single_d(op), single_m(op));
+            after(fpscr, mark_truncated(marks, false, op))
+        }
+        Operation::Ftosi => {
+            round_single(s, fpscr, true, single_d(op), single_m(op));
+            after(fpscr, mark_rounded(marks, false, op))
+        }
+        Operation::Ftosiz => {
+            truncate_single(s, true, single_d(op), single_m(op));
+            after(fpscr, mark_truncated(marks, false, op))
+        }
+        _ => after(fpscr, marks), // no unary word
+    }
+}
