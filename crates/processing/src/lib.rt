@@ -3,9 +3,10 @@ mod double;
 mod single;
 
 ghost use mathlib.Core.Path.{_≡_};
-ghost use Rattle.decoding.specs.Table.{operationTable};
+ghost use Rattle.decoding.specs.Operation.{operationOf};
 ghost use Rattle.processing.specs.Data.{dataTree, Handled};
 use bits::field::bits;
+use decoding::operation::Operation;
 use decoding::table::operation;
 use decoding::table::operations;
 use double::process_double;
@@ -17,17 +18,17 @@ pub enum Processed {
     Undefined,
 }
 
-// The word on the singles, with FPSCR by value. A run makes the table once and lends it to each word.
-pub fn process(table: &[u8; 1024], s: &mut [u32; 32], fpscr: u32, op: u32) -> Processed
-    requires { ⌜ now table ≡ operationTable ⌝ }
+// The word on the singles, with FPSCR by value, and its operation. A run decodes by the table that it made once.
+pub fn process(s: &mut [u32; 32], fpscr: u32, o: Operation, op: u32) -> Processed
+    requires { ⌜ o ≡ operationOf op ⌝ }
     ensures { λ r. ⌜ Handled (λ thumb. dataTree thumb op) op (now (s .entry)) fpscr (now (s .exit)) r ⌝ }
 {
     let coproc = bits(op, 8, 11);
     if coproc == 10 {
-        return process_single(s, fpscr, op, operation(table, op));
+        return process_single(s, fpscr, op, o);
     }
     if coproc == 11 {
-        return process_double(s, fpscr, op, operation(table, op));
+        return process_double(s, fpscr, op, o);
     }
     Processed::Undefined
 }
@@ -37,5 +38,6 @@ pub fn data_processing(s: &mut [u32; 32], fpscr: u32, op: u32) -> Processed
     ensures { λ r. ⌜ Handled (λ thumb. dataTree thumb op) op (now (s .entry)) fpscr (now (s .exit)) r ⌝ }
 {
     let table = operations();
-    process(&table, s, fpscr, op)
+    let o = operation(&table, op);
+    process(s, fpscr, o, op)
 }

@@ -7,6 +7,7 @@ ghost use Rattle.bits.specs.Field.{field};
 ghost use Rattle.machine.specs.Machine.{assembled};
 ghost use Rattle.machine.specs.Place.{state};
 ghost use Rattle.meaning.specs.Tree.{out, plain};
+ghost use Rattle.decoding.specs.Operation.{operationOf};
 ghost use Rattle.decoding.specs.Table.{operationTable};
 ghost use Rattle.processing.specs.Data.{dataTree};
 ghost use Rattle.run_word.specs.Stop.{nextOf};
@@ -15,6 +16,7 @@ use super::Next;
 use super::Stop;
 use super::word::Executed;
 use bits::field::bit;
+use decoding::operation::Operation;
 use decoding::operation::numbered;
 use decoding::table::number;
 use machine::Controls;
@@ -38,11 +40,11 @@ pub(crate) fn process_data(
 {
     let n = number(table, op);
     if n == 0 {
-        return steps(table, s, r, x, op); // Undefined
+        return steps(s, r, x, numbered(n), op); // Undefined
     }
     let fpscr = x.fpscr;
     if fpscr / 0x1_0000 % 8 != 0 {
-        return steps(table, s, r, x, op);
+        return steps(s, r, x, numbered(n), op);
     }
     if n < 10 {
         if bit(op, 8) {
@@ -59,11 +61,11 @@ pub(crate) fn process_data(
 }
 
 // Any word, with its iterations.
-fn steps(table: &[u8; 1024], s: &mut [u32; 32], r: &[u32; 16], x: Controls, op: u32) -> Executed
-    requires { ⌜ now table ≡ operationTable ⌝ }
+fn steps(s: &mut [u32; 32], r: &[u32; 16], x: Controls, o: Operation, op: u32) -> Executed
+    requires { ⌜ o ≡ operationOf op ⌝ }
     ensures { λ e. ⌜ ((v : List ℕ) → out (state (assembled (now (s .exit)) (now (r .entry)) (e .controls) false) v) (nextOf (e .next)) ≡ plain (dataTree false op) (state (assembled (now (s .entry)) (now (r .entry)) x false) v)) ⌝ }
 {
-    let after = processing::process(table, s, x.fpscr, op);
+    let after = processing::process(s, x.fpscr, o, op);
     match after {
         Processed::Done(fpscr) => done(x, fpscr),
         Processed::Undefined => {

@@ -194,7 +194,7 @@ fn watch_data(
         },
         Hang::Clear => {
             let known = mark_data(marks, x.fpscr, o, op);
-            let after = processing::process(table, s, x.fpscr, op);
+            let after = processing::process(s, x.fpscr, o, op);
             match after {
                 Processed::Done(fpscr) => done(x, fpscr, known),
                 Processed::Undefined => {

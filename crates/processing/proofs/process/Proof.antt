@@ -14,9 +14,7 @@ process-spec =
     (tie.spec
     (λ c κs. search needs)
     (λ c κs. search needs)
+    (λ c. let a = c .before .before .before .before .args in handled-as (namedTree binary32 (a .op) (a .o)) (λ thumb. dataTree thumb (a .op)) (a .op) (now (a .s)) (a .fpscr) _ (c .process-single .result) (λ thumb. data-single (a .op) thumb _ (c .before .before .before .bits .ensures) (c .before .before .if1 .taken) ∙ rw (c .before .before .before .before .pre)) (c .process-single .ensures))
     (λ c κs. search needs)
-    (λ c. let a = c .before .before .before .before .before .args in handled-as (namedTree binary32 (a .op) (c .before .operation .result)) (λ thumb. dataTree thumb (a .op)) (a .op) (now (a .s)) (a .fpscr) _ (c .process-single .result) (λ thumb. data-single (a .op) thumb _ (c .before .before .before .before .bits .ensures) (c .before .before .before .if1 .taken) ∙ rw (c .before .operation .ensures)) (c .process-single .ensures))
-    (λ c κs. search needs)
-    (λ c κs. search needs)
-    (λ c. let a = c .before .before .before .before .before .before .args in handled-as (namedTree binary64 (a .op) (c .before .operation2 .result)) (λ thumb. dataTree thumb (a .op)) (a .op) (now (a .s)) (a .fpscr) _ (c .process-double .result) (λ thumb. data-double (a .op) thumb _ (c .before .before .before .before .before .bits .ensures) (c .before .before .before .if2 .taken) ∙ rw (c .before .operation2 .ensures)) (c .process-double .ensures))
+    (λ c. let a = c .before .before .before .before .before .args in handled-as (namedTree binary64 (a .op) (a .o)) (λ thumb. dataTree thumb (a .op)) (a .op) (now (a .s)) (a .fpscr) _ (c .process-double .result) (λ thumb. data-double (a .op) thumb _ (c .before .before .before .before .bits .ensures) (c .before .before .if2 .taken) ∙ rw (c .before .before .before .before .before .pre)) (c .process-double .ensures))
     (λ c. (refl, λ thumb. data-none (c .before .before .before .args .op) thumb _ (c .before .before .bits .ensures) (c .before .if1 .left) (c .if2 .left))))

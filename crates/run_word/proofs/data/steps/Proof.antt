@@ -28,10 +28,10 @@ current-pc-requires : tie.Need-current-pc-requires
 current-pc-requires c κs = search needs
 
 returns : tie.Need-returns
-returns c = let a = c .before .before .before .before .before .before .args in goes-on (a .op) (now (a .s)) (now (a .r)) (a .x) _ _ (c .done .result) (c .done .ensures) (subst (λ (z : Processed). Handled (λ thumb. dataTree thumb (a .op)) (a .op) (now (a .s)) (a .x .fpscr) (c .before .before .before .before .process .last .1 .0) z) (c .before .before .after .given .1) (c .before .before .before .before .process .ensures))
+returns c = let a = c .before .before .before .before .before .before .args in goes-on (a .op) (now (a .s)) (now (a .r)) (a .x) _ _ (c .done .result) (c .done .ensures) (subst (λ (z : Processed). Handled (λ thumb. dataTree thumb (a .op)) (a .op) (now (a .s)) (a .x .fpscr) (c .before .before .before .before .process .last .0) z) (c .before .before .after .given .1) (c .before .before .before .before .process .ensures))
 
 returns-2 : tie.Need-returns-2
-returns-2 c = let a = c .before .before .before .before .before .before .args in λ v. data-undefined (a .op) (now (a .s)) (now (a .r)) (a .x) (c .before .before .before .before .process .last .1 .0) (c .before .before .before .before .process .result) (c .before .before .before .before .process .ensures) v _ (c .before .before .enum-told .given .1) (c .current-pc .ensures)
+returns-2 c = let a = c .before .before .before .before .before .before .args in λ v. data-undefined (a .op) (now (a .s)) (now (a .r)) (a .x) (c .before .before .before .before .process .last .0) (c .before .before .before .before .process .result) (c .before .before .before .before .process .ensures) v _ (c .before .before .enum-told .given .1) (c .current-pc .ensures)
 
 pub steps-spec : {M : Type 1} → statement M
 steps-spec =

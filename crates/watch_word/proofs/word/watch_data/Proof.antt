@@ -41,7 +41,7 @@ mark-data-requires : tie.Need-mark-data-requires
 mark-data-requires c κs = the-operation (c .before .before .before .before .before .before .before .args .op) (c .before .before .before .before .before .before .number .result) (c .before .before .before .numbered .result) (c .before .before .before .before .before .before .number .ensures) (c .before .before .before .numbered .ensures)
 
 process-requires : tie.Need-process-requires
-process-requires c κs = search needs
+process-requires c κs = the-operation (c .before .before .before .before .before .before .before .before .before .args .op) (c .before .before .before .before .before .before .before .before .number .result) (c .before .before .before .before .before .numbered .result) (c .before .before .before .before .before .before .before .before .number .ensures) (c .before .before .before .before .before .numbered .ensures)
 
 enum-known-after : tie.Need-enum-known-after
 enum-known-after c = search needs
