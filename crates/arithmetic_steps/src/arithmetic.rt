@@ -138,7 +138,8 @@ fn unflushed_double(s: &mut [u32; 32], kind: Arithmetic, d: Double, n: Double, m
     set_double(s, d, x);
 }
 
-// The iterations where results are stored as they are.
+// The iterations where results are stored as they are. A loop of doubles counts the registers that it goes on and not its iterations: of these the compiler
+// knows that they are at most eight, and takes the loop apart into eight steps, for which it has too few registers.
 fn unflushed_doubles(
     s: &mut [u32; 32],
     control: u32,
@@ -151,15 +152,15 @@ fn unflushed_doubles(
     ensures { λ _. ⌜ Iterated (iterationsOf binary64 control (d .0)) (dyadicStep binary64 control kind (d .0) (n .0) (m .0)) (now (s .entry)) (now (s .exit)) ⌝ }
 {
     let vector = Vector::new(control, true, d.0);
-    let count = vector.iterations;
+    let end = vector.iterations * vector.stride;
     let mut dn = d.0;
     let mut nn = n.0;
     let mut mn = m.0;
-    let mut i: usize = 0;
+    let mut far: usize = 0;
     loop {
         unflushed_double(s, kind, Double(dn), Double(nn), Double(mn));
-        i += 1;
-        if i >= count {
+        far += vector.stride;
+        if far >= end {
             return;
         }
         dn = vector.step(dn, 1);
@@ -184,15 +185,15 @@ pub fn arithmetic_doubles(
         return;
     }
     let vector = Vector::new(control, true, d.0);
-    let count = vector.iterations;
+    let end = vector.iterations * vector.stride;
     let mut dn = d.0;
     let mut nn = n.0;
     let mut mn = m.0;
-    let mut i: usize = 0;
+    let mut far: usize = 0;
     loop {
         arithmetic_double(s, control, kind, Double(dn), Double(nn), Double(mn));
-        i += 1;
-        if i >= count {
+        far += vector.stride;
+        if far >= end {
             return;
         }
         dn = vector.step(dn, 1);

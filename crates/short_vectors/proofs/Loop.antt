@@ -184,6 +184,81 @@ module _ {S Y : Type 0} {R : Repeats S Y} {f : Format} {c : ℕ} {y : ℕ → �
       pub finally : v .iterations ≤ i + 1 → R .all (iterationsOf f c d) (iteration f c y d n m) s₀ s′
       finally h = let last : iterationsOf f c d ≡ i + 1 = omega (arith, here .made .iterations, here .more) in rw last did-one
 
+-- ---- a loop that counts the registers that it went on, and not its iterations
+
+module _ (b : Bool) (k n far : ℕ) (e : far ≡ k * cond b 2 1) where
+  not-last : far + cond b 2 1 < n * cond b 2 1 → k + 1 < n
+  not-last h = by b e h
+    where
+      by : (b : Bool) → far ≡ k * cond b 2 1 → far + cond b 2 1 < n * cond b 2 1 → k + 1 < n
+      by true e h = omega arith
+      by false e h = omega arith
+
+  at-last : n * cond b 2 1 ≤ far + cond b 2 1 → n ≤ k + 1
+  at-last h = by b e h
+    where
+      by : (b : Bool) → far ≡ k * cond b 2 1 → n * cond b 2 1 ≤ far + cond b 2 1 → n ≤ k + 1
+      by true e h = omega arith
+      by false e h = omega arith
+
+  one-on : far + cond b 2 1 ≡ (k + 1) * cond b 2 1
+  one-on = by b e
+    where
+      by : (b : Bool) → far ≡ k * cond b 2 1 → far + cond b 2 1 ≡ (k + 1) * cond b 2 1
+      by true e = omega arith
+      by false e = omega arith
+
+  not-far : k < n → n ≤ 8 → far + cond b 2 1 ≤ 16
+  not-far h g = by b e
+    where
+      by : (b : Bool) → far ≡ k * cond b 2 1 → far + cond b 2 1 ≤ 16
+      by true e = omega arith
+      by false e = omega arith
+
+pub reach : {f : Format} {c d : ℕ} {v : Vector} → Vectored f c d v → v .iterations * v .stride ≤ 16
+reach {f} {c} {d} {v} made = rw (made .iterations, made .stride) (by (eqb (c / 2 ^ 20 % 4) 3) (iterations-few f c d))
+  where
+    by : (b : Bool) → iterationsOf f c d ≤ 8 → iterationsOf f c d * cond b 2 1 ≤ 16
+    by true h = omega arith
+    by false h = omega arith
+
+pub record Reaching {S Y : Type 0} (R : Repeats S Y) (f : Format) (c : ℕ) (y : ℕ → ℕ → ℕ → Y) (d n m : ℕ) (v : Vector) (s₀ s : S) (dn nn mn far : ℕ) : Type 0 where
+  pub turn : ℕ
+  pub far-is : far ≡ turn * v .stride
+  pub here : Iterating R f c y d n m v s₀ s dn nn mn turn
+
+module _ {S Y : Type 0} {R : Repeats S Y} {f : Format} {c : ℕ} {y : ℕ → ℕ → ℕ → Y} {d n m : ℕ} {v : Vector} {s₀ : S} where
+  pub reach-none : Vectored f c d v → d < 32 → n < 32 → m < 32 → Reaching R f c y d n m v s₀ s₀ d n m 0
+  reach-none made dh nh mh = record { turn = 0; far-is = omega arith; here = initially made dh nh mh }
+
+  module _ {s : S} {dn nn mn far : ℕ} (at : Reaching R f c y d n m v s₀ s dn nn mn far) where
+    far-of : far ≡ at .turn * strideOf c
+    far-of = rw (at .here .made .stride) at (at .far-is)
+
+    pub reach-on : 0 < v .stride
+    reach-on = rw (at .here .made .stride) (by (eqb (c / 2 ^ 20 % 4) 3))
+      where
+        by : (b : Bool) → 0 < cond b 2 1
+        by true = omega arith
+        by false = omega arith
+
+    pub reach-few : far + v .stride ≤ 16
+    reach-few = rw (at .here .made .stride) (not-far (eqb (c / 2 ^ 20 % 4) 3) (at .turn) (v .iterations) far far-of (at .here .more) (at .here .few))
+
+    module _ {s′ : S} (does : R .one (y dn nn mn) s s′) where
+      pub reach-again : {dn′ nn′ mn′ : ℕ} → far + v .stride < v .iterations * v .stride
+          → dn′ ≡ stepOf (v .bank) (v .stride) dn 1 → nn′ ≡ stepOf (v .bank) (v .stride) nn 1 → mn′ ≡ secondOf (v .bank) (v .stride) mn 1
+          → Reaching R f c y d n m v s₀ s′ dn′ nn′ mn′ (far + v .stride)
+      reach-again more p q r =
+          record {
+            turn = at .turn + 1;
+            far-is = rw (at .here .made .stride) (one-on (eqb (c / 2 ^ 20 % 4) 3) (at .turn) (v .iterations) far far-of);
+            here = again (at .here) does (not-last (eqb (c / 2 ^ 20 % 4) 3) (at .turn) (v .iterations) far far-of (rw (at .here .made .stride) at more)) p q r;
+          }
+
+      pub reach-end : v .iterations * v .stride ≤ far + v .stride → R .all (iterationsOf f c d) (iteration f c y d n m) s₀ s′
+      reach-end h = finally (at .here) does (at-last (eqb (c / 2 ^ 20 % 4) 3) (at .turn) (v .iterations) far far-of (rw (at .here .made .stride) at h))
+
 -- where LEN is 0 a word makes one iteration
 pub iterations-one : (f : Format) (c d : ℕ) → c / 2 ^ 16 % 8 ≡ 0 → iterationsOf f c d ≡ 1
 iterations-one f c d scalar = by (ltb d (bankOf f))
