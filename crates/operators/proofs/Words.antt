@@ -1,0 +1,135 @@
+-- Words as the values that they stand for, and what is written. Over the mode and the format. Assumes nothing.
+use mathlib.Core.Path.{_≡_, refl, sym, ap, _∙_, subst}
+use mathlib.Core.Logic.{inl, inr}
+use mathlib.Core.Bool.{Bool, true, false, cond}
+use Prim.Native.Nat.{ℕ, zero, _+_, _-_, _*_, _/_, _%_, _^_, _≤_, _<_, min, zero-le}
+use native.Mathlib.Nat.{div-one, mod-one, div-add-mod', mul-pos, mul-one, zero-mul, min-eq-left, add-zero}
+use native.Mathlib.Omega.{arith}
+use native.Mathlib.Decide.{decLt}
+use borrow.Author.Tests.{lt-ltb}
+use lib.Dec.{leb, lit<}
+use lib.IntN.{pos}
+use lib.Pow.{pow-pos}
+use lib.Ieee.{Float, nan, inf, fin, Format, binary32, binary64, prec, low, hid, ones, top, ofBits, toBits}
+use lib.Ieee.Bits.{nanBits-above}
+use lib.Ieee.Exact.{HasValue}
+use Rattle.rounding.specs.Rounding.{rounded}
+use Rattle.packing.specs.Pack.{packed, ceiling}
+use Rattle.rounding.specs.declared.rounding.Rounding.{Rounding}
+use Rattle.floats.proofs.Units.{Lead, sign-bit, reads-low, reads-normal, reads-zero, reads-inf}
+use Rattle.floats.proofs.Patterns.{reads-nan}
+use Rattle.rounding.proofs.Cutting.{cut-exact}
+use Rattle.packing.proofs.Written.{rounded-bits, ceiling-ge}
+
+-- ---- NaNs and infinities
+
+pub nan-above : (f : Format) (b : ℕ) → ones f * hid f < b % top f → ofBits f b ≡ nan
+nan-above f b h = reads-nan f b (nanBits-above f b ∙ lt-ltb (ones f * hid f) (b % top f) h)
+
+pub inf-at : (f : Format) (b : ℕ) → b % top f ≡ ones f * hid f → ofBits f b ≡ inf (leb (top f) b)
+inf-at binary32 b h = reads-inf binary32 b (omega arith) (omega arith)
+inf-at binary64 b h = reads-inf binary64 b (omega arith) (omega arith)
+
+-- ---- a finite word's size
+
+-- q * 2 ^ k smallest values, which the format holds, round to themselves
+own : (mode : Rounding) (f : Format) (s : Bool) (q k : ℕ) → q < 2 ^ prec f → Lead f k q → k * hid f + q < ones f * hid f
+    → toBits f (rounded mode f s (q * 2 ^ k) (2 ^ low f)) ≡ cond s (top f) 0 + (k * hid f + q)
+own mode f s q k few lead most =
+    rounded-bits mode f s (q * 2 ^ k) (2 ^ low f) k q 1 (pow-pos (low f)) (lit< tt) (scale q (2 ^ k) (2 ^ low f))
+    (subst (λ (z : ℕ). z < 2 ^ prec f) (sym (div-one q)) few) (subst (λ (z : ℕ). Lead f k z) (sym (div-one q)) lead)
+    ∙ ap (packed mode f s k) (cut-exact mode s q 1 (lit< tt) (mod-one q) ∙ div-one q)
+    ∙ ap (λ (z : ℕ). cond s (top f) 0 + z) (min-eq-left (before (k * hid f + q) (ones f * hid f) (ceiling mode f s) most (ceiling-ge mode f s)))
+  where
+    scale : (q k l : ℕ) → q * k * l * 1 ≡ q * (l * k)
+    scale q k l = omega arith
+
+    before : (x y z : ℕ) → x < y → y - 1 ≤ z → x ≤ z
+    before x y z a b = omega arith
+
+-- a finite word stands for a whole number of smallest values, not 0 where its pattern is not, which rounds to the word itself
+pub record Sized (f : Format) (b : ℕ) : Type 0 where
+  pub size : ℕ
+  pub value : HasValue (ofBits f b) (leb (top f) b) size (2 ^ low f)
+  pub some : 0 < b % top f → 0 < size
+  pub same : b < 2 * top f → (mode : Rounding) → b ≡ toBits f (rounded mode f (leb (top f) b) size (2 ^ low f))
+
+pub sized : (f : Format) (b : ℕ) → b % top f < ones f * hid f → Sized f b
+sized f b h = go f (decLt 0 (b % top f / hid f)) h
+  where
+    none : (x : ℕ) → (0 < x → ⊥) → x ≡ 0
+    none x n = omega arith
+
+    not-none : (x : ℕ) → 0 < x → x ≡ 0 → ⊥
+    not-none x n e = omega arith
+
+    under : (f : Format) → b % top f < ones f * hid f → b % top f / hid f ≡ ones f → ⊥
+    under binary32 h e = omega arith
+    under binary64 h e = omega arith
+
+    digits : (f : Format) → b % top f / hid f ≡ 0 → 0 < b % top f → 0 < b % hid f
+    digits binary32 h e = omega arith
+    digits binary64 h e = omega arith
+
+    lead : (f : Format) → (0 < hid f + b % hid f) × (hid f ≤ hid f + b % hid f) × (hid f + b % hid f < 2 ^ prec f) × (b % hid f < 2 ^ prec f)
+    lead binary32 = omega arith
+    lead binary64 = omega arith
+
+    normal : (f : Format) → 0 < b % top f / hid f → (b % top f / hid f - 1) * hid f + (hid f + b % hid f) ≡ b % top f
+    normal binary32 p = omega arith
+    normal binary64 p = omega arith
+
+    low-pattern : (f : Format) → b % top f / hid f ≡ 0 → 0 * hid f + b % hid f ≡ b % top f
+    low-pattern binary32 z = omega arith
+    low-pattern binary64 z = omega arith
+
+    word : (f : Format) (n : ℕ) → n ≡ b % top f → b < 2 * top f → cond (leb (top f) b) (top f) 0 + n ≡ b
+    word f n e l = ap (λ (z : ℕ). z + n) (sym (sign-bit (top f) b (top f) (top-pos f) l)) ∙ ap (λ (z : ℕ). b / top f * top f + z) e ∙ div-add-mod' b (top f)
+      where
+        top-pos : (f : Format) → 0 < top f
+        top-pos binary32 = lit< tt
+        top-pos binary64 = lit< tt
+
+    go : (f : Format) → Dec (0 < b % top f / hid f) → b % top f < ones f * hid f → Sized f b
+    go f (yes p) h =
+        let x = b % top f / hid f in
+        let q = hid f + b % hid f in record {
+          size = q * 2 ^ (x - 1);
+          value = reads-normal f b (not-none x p) (under f h);
+          some = λ _. mul-pos (lead f .0) (pow-pos (x - 1));
+          same = λ l (mode : Rounding). sym (own mode f (leb (top f) b) q (x - 1) (lead f .2) (inr (lead f .1)) (subst (λ (z : ℕ). z < ones f * hid f) (sym (normal f p)) h) ∙ word f _ (normal f p) l);
+        }
+    go f (no n) h =
+        let z : b % top f / hid f ≡ 0 = none (b % top f / hid f) n in record {
+          size = b % hid f * 2 ^ 0;
+          value = reads-low f b z;
+          some = λ g. mul-pos (digits f z g) (pow-pos 0);
+          same = λ l (mode : Rounding). sym (own mode f (leb (top f) b) (b % hid f) 0 (lead f .3) (inl refl) (subst (λ (w : ℕ). w < ones f * hid f) (sym (low-pattern f z)) h) ∙ word f _ (low-pattern f z) l);
+        }
+
+-- ---- what is written
+
+pub nan-bits : (f : Format) (v : Float) → v ≡ nan → ones f * hid f + hid f / 2 ≡ toBits f v
+unfolding toBits
+nan-bits f v e = sym (ap (toBits f) e)
+
+pub inf-bits : (f : Format) (v : Float) (s : Bool) (sign : ℕ) → sign ≡ cond s (top f) 0 → v ≡ inf s → sign + ones f * hid f ≡ toBits f v
+unfolding toBits
+inf-bits f v s sign d e = ap (λ (z : ℕ). z + ones f * hid f) d ∙ sym (ap (toBits f) e)
+
+pub zero-bits : (mode : Rounding) (f : Format) (s : Bool) (num den : ℕ) → 0 < den → num ≡ 0 → toBits f (rounded mode f s num den) ≡ cond s (top f) 0
+zero-bits mode f s num den D e =
+    rounded-bits mode f s num den 0 0 1 D (lit< tt) (mul-one (num * 2 ^ low f) ∙ ap (λ (x : ℕ). x * 2 ^ low f) e ∙ zero-mul (2 ^ low f) ∙ sym (zero-mul (den * 2 ^ 0))) (pow-pos (prec f)) (inl refl)
+    ∙ ap (packed mode f s 0) (cut-exact mode s 0 1 (lit< tt) refl)
+    ∙ ap (λ (x : ℕ). cond s (top f) 0 + x) (ap (λ (x : ℕ). min (x + 0 / 1) (ceiling mode f s)) (zero-mul (hid f)) ∙ min-eq-left {m = ceiling mode f s} zero-le)
+    ∙ add-zero (cond s (top f) 0)
+
+pub zero-size : (f : Format) (b : ℕ) → b % top f ≡ 0 → HasValue (ofBits f b) (leb (top f) b) 0 1
+zero-size f b z = subst (λ (v : Float). HasValue v (leb (top f) b) 0 1) (sym (reads-zero f b z)) (refl, refl)
+
+pub signed-zero : (f : Format) (s : Bool) → toBits f (fin s 0 (pos 0)) ≡ cond s (top f) 0
+unfolding toBits
+signed-zero binary32 true = refl
+signed-zero binary32 false = refl
+signed-zero binary64 true = refl
+signed-zero binary64 false = refl

@@ -1,0 +1,1 @@
+// Sum, product and quotient by a rounding mode, as definitions, with their laws. No code.
