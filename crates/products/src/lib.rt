@@ -1,0 +1,2 @@
+// Products by integer work on the bits, in every rounding mode.
+pub mod product;
