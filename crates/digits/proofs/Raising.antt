@@ -9,7 +9,7 @@ use lib.Count.{leadingZeros, leading-top}
 use lib.Dec.{lit≤}
 use lib.Pow.{pow-add, pow-pos, pow-mono, shl-lt}
 use lib.Ieee.{Float, Format, unlike, toBits}
-use Rattle.digits.specs.Digits.{sticky, IsFolded, IsRaised}
+use Rattle.digits.specs.Digits.{sticky, IsRaised}
 use Rattle.rounding.specs.Rounding.{rounded}
 use Rattle.packing.specs.Pack.{IsSettled}
 use Rattle.rounding.specs.declared.rounding.Rounding.{Rounding}
@@ -91,9 +91,3 @@ raised-ge t r p = subst (λ (z : ℕ). 2 ^ 61 ≤ z) (sym (up-is t r p)) (p .lea
 pub plain : (b : Bool) → b ≡ unlike false b
 plain true = refl
 plain false = refl
-
-pub folded-pos : (x v m : ℕ) → IsFolded x v m → 0 < m
-folded-pos x v m p = subst (λ (z : ℕ). 0 < z) (sym (p .told)) (more (p .whole) _ (p .least))
-  where
-    more : (a t : ℕ) → 2 ^ 53 ≤ a → 0 < a * 2 + t
-    more a t h = omega arith

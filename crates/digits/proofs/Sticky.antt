@@ -1,5 +1,6 @@
 -- What is left below enough leading digits is as good as one sticky digit. Over the mode and the format. Assumes nothing.
 use mathlib.Core.Path.{_≡_, refl, sym, ap, _∙_, subst}
+use mathlib.Core.Logic.{_⊎_, inl, inr}
 use mathlib.Core.Bool.{Bool, true, false}
 use Prim.Native.Nat.{ℕ, zero, suc, _+_, _-_, _*_, _/_, _%_, _^_, _≤_, _<_, compare, Ordering, Ordering·lt, Ordering·eq, Ordering·gt}
 use native.Mathlib.Nat.{mul-assoc, mul-comm, mul-right-comm, mul-pos, add-mul, suc-mul, mul-le-mul-right, le-trans, le-of-eq, div-add-mod', mod-lt, add-assoc, zero-lt-suc, zero-mul, mul-le-mul, le-div-iff-mul-le, div-div-eq-div-mul, not-le-of-lt, lt-of-not-le, le-of-suc-le-suc, pow-succ'}
@@ -268,31 +269,52 @@ module _ (mode : Rounding) (f : Format) (s : Bool) (a v r E D : ℕ) (R : r < v)
       ap (λ (z : ℕ). settled mode f s z k) same-cut
       ∙ sym (ap (λ (z : ℕ). settled mode f s (cutTo mode s m (2 * 2 ^ D * 2 ^ z)) z) same-dropped)
 
--- for the last stage
-few : (f : Format) → 2 ^ prec f ≤ 2 ^ 53
-few binary32 = lit≤ tt
-few binary64 = le-of-eq refl
-
-pub folded-rounds : (mode : Rounding) (f : Format) (s : Bool) (x v m e : ℕ) → IsFolded x v m → rounded mode f s (x * 2 ^ suc e) (v * 2 ^ 2209) ≡ rounded mode f s (m * 2 ^ e) (2 ^ 2209)
-folded-rounds mode f s x v m e p =
-    let a = p .whole in
-    let r = p .rest in
-    ap (λ (z : ℕ). rounded mode f s (z * 2 ^ suc e) (v * 2 ^ 2209)) (sym (p .sum))
-    ∙ rounded-sticky mode f s a v r (suc e) 2209 (p .small) (le-trans (few f) (p .least))
-    ∙ rounded-same mode f s ((a * 2 + sticky r) * 2 ^ suc e) (2 * 2 ^ 2209) (m * 2 ^ e) (2 ^ 2209) (mul-pos (zero-lt-suc 1) (pow-pos 2209)) (pow-pos 2209)
-    (ap (λ (z : ℕ). z * 2 ^ suc e * 2 ^ 2209) (sym (p .told)) ∙ ap (λ (z : ℕ). m * z * 2 ^ 2209) (pow-succ' 2 e) ∙ swap m (2 ^ e) (2 ^ 2209))
-  where
-    swap : (m e d : ℕ) → m * (2 * e) * d ≡ m * e * (2 * d)
-    swap m e d = omega arith
-
--- at one format its own digits are enough
-pub few-folded-rounds : (mode : Rounding) (f : Format) (s : Bool) (x v a r m e : ℕ) → r < v → 2 ^ prec f ≤ a → a * v + r ≡ x → m ≡ a * 2 + sticky r
+-- for the last stage, where the format keeps no more digits than there are
+pub folded-rounds : (mode : Rounding) (f : Format) (s : Bool) (n x v m e : ℕ) → prec f ≤ n → IsFolded n x v m
     → rounded mode f s (x * 2 ^ suc e) (v * 2 ^ 2209) ≡ rounded mode f s (m * 2 ^ e) (2 ^ 2209)
-few-folded-rounds mode f s x v a r m e R A h d =
-    ap (λ (z : ℕ). rounded mode f s (z * 2 ^ suc e) (v * 2 ^ 2209)) (sym h)
-    ∙ rounded-sticky mode f s a v r (suc e) 2209 R A
-    ∙ rounded-same mode f s ((a * 2 + sticky r) * 2 ^ suc e) (2 * 2 ^ 2209) (m * 2 ^ e) (2 ^ 2209) (mul-pos (zero-lt-suc 1) (pow-pos 2209)) (pow-pos 2209)
-    (ap (λ (z : ℕ). z * 2 ^ suc e * 2 ^ 2209) (sym d) ∙ ap (λ (z : ℕ). m * z * 2 ^ 2209) (pow-succ' 2 e) ∙ swap m (2 ^ e) (2 ^ 2209))
+folded-rounds mode f s n x v m e h p = ap (λ (z : ℕ). rounded mode f s (z * 2 ^ suc e) (v * 2 ^ 2209)) (sym (p .sum)) ∙ go (p .enough)
   where
-    swap : (m e d : ℕ) → m * (2 * e) * d ≡ m * e * (2 * d)
-    swap m e d = omega arith
+    a : ℕ
+    a = p .whole
+
+    r : ℕ
+    r = p .rest
+
+    some : (r v : ℕ) → r < v → 0 < v
+    some r v h = omega arith
+
+    some-v : 0 < v
+    some-v = some r v (p .small)
+
+    halved : (m e d : ℕ) → m * (2 * e) * d ≡ m * e * (2 * d)
+    halved m e d = omega arith
+
+    twice : (a v e d : ℕ) → (a * v + 0) * (2 * e) * d ≡ (a * 2 + 0) * e * (v * d)
+    twice a v e d = omega arith
+
+    exact : r ≡ 0 → (a * v + r) * 2 ^ suc e * 2 ^ 2209 ≡ m * 2 ^ e * (v * 2 ^ 2209)
+    exact z =
+        ap (λ (t : ℕ). (a * v + t) * 2 ^ suc e * 2 ^ 2209) z
+        ∙ ap (λ (t : ℕ). (a * v + 0) * t * 2 ^ 2209) (pow-succ' 2 e)
+        ∙ twice a v (2 ^ e) (2 ^ 2209)
+        ∙ ap (λ (t : ℕ). (a * 2 + t) * 2 ^ e * (v * 2 ^ 2209)) (sym (ap sticky z))
+        ∙ ap (λ (t : ℕ). t * 2 ^ e * (v * 2 ^ 2209)) (sym (p .told))
+
+    go : (2 ^ n ≤ a) ⊎ (r ≡ 0) → rounded mode f s ((a * v + r) * 2 ^ suc e) (v * 2 ^ 2209) ≡ rounded mode f s (m * 2 ^ e) (2 ^ 2209)
+    go (inl l) =
+        rounded-sticky mode f s a v r (suc e) 2209 (p .small) (le-trans (pow-mono h) l)
+        ∙ rounded-same mode f s ((a * 2 + sticky r) * 2 ^ suc e) (2 * 2 ^ 2209) (m * 2 ^ e) (2 ^ 2209) (mul-pos (zero-lt-suc 1) (pow-pos 2209)) (pow-pos 2209)
+        (ap (λ (z : ℕ). z * 2 ^ suc e * 2 ^ 2209) (sym (p .told)) ∙ ap (λ (z : ℕ). m * z * 2 ^ 2209) (pow-succ' 2 e) ∙ halved m (2 ^ e) (2 ^ 2209))
+    go (inr z) = rounded-same mode f s ((a * v + r) * 2 ^ suc e) (v * 2 ^ 2209) (m * 2 ^ e) (2 ^ 2209) (mul-pos some-v (pow-pos 2209)) (pow-pos 2209) (exact z)
+
+-- a double keeps 53 digits, a single fewer
+pub most-digits : (f : Format) → prec f ≤ 53
+most-digits binary32 = lit≤ tt
+most-digits binary64 = le-of-eq refl
+
+-- the digits are 0 where all is
+pub folded-zero : (n x v m : ℕ) → IsFolded n x v m → x ≡ 0 → m ≡ 0
+folded-zero n x v m p z = p .told ∙ ap (λ (t : ℕ). t + sticky (p .rest)) (mul-comm (p .whole) 2) ∙ zero-both (p .whole) v (p .rest) (p .small) (p .sum ∙ z)
+
+pub zero-folded : (n x v m : ℕ) → IsFolded n x v m → m ≡ 0 → x ≡ 0
+zero-folded n x v m p z = sym (p .sum) ∙ both-zero (p .whole) v (p .rest) (ap (λ (t : ℕ). t + sticky (p .rest)) (mul-comm 2 (p .whole)) ∙ sym (p .told) ∙ z)

@@ -1,6 +1,7 @@
 -- An operand's digits, a result's leading digits with a sticky one below them, and what the code's stages give. Assumes nothing.
 use Prim.Native.Nat.{ℕ, zero, suc, _+_, _*_, _%_, _^_, _≤_, _<_}
 use mathlib.Core.Path.{_≡_}
+use mathlib.Core.Logic.{_⊎_}
 use mathlib.Core.Bool.{Bool}
 use lib.Ieee.{Float, Format, hid, ones, top}
 use lib.Ieee.Exact.{HasValue}
@@ -21,14 +22,14 @@ pub record IsOperand (v : Float) (s : Bool) (m e : ℕ) : Type 0 where
   pub below : m < 2 ^ 53
   pub range : e < 2100
 
--- m stands for x / v: leading digits, as many as either format keeps, and below them a sticky one for what is left
-pub record IsFolded (x v m : ℕ) : Type 0 where
+-- m stands for x / v: its leading digits, n of them or all, and below them a sticky one for what is left
+pub record IsFolded (n x v m : ℕ) : Type 0 where
   pub whole : ℕ
   pub rest : ℕ
   pub small : rest < v
   pub sum : whole * v + rest ≡ x
   pub told : m ≡ whole * 2 + sticky rest
-  pub least : 2 ^ 53 ≤ whole
+  pub enough : (2 ^ n ≤ whole) ⊎ (rest ≡ 0)
   pub below : m < 2 ^ 62
 
 -- how far a number that is not 0 goes up for its leading digit to be the 62nd

@@ -2,7 +2,7 @@
 use mathlib.Core.Path.{_≡_, refl, sym, ap, _∙_}
 use mathlib.Core.Bool.{Bool, true, false, cond, Bool·beq}
 use Prim.Native.Nat.{ℕ, zero, _+_, _-_, _*_, _≤_, _<_}
-use native.Mathlib.Nat.{mul-pos, add-mul, mul-comm, mul-assoc, mul-right-comm, mul-lt-mul-of-pos-right, lt-of-mul-lt-mul-right, le-of-lt, sub-zero, add-zero, zero-add, zero-mul, lt-of-lt-of-le, lt-of-le-of-lt, le-of-eq}
+use native.Mathlib.Nat.{mul-pos, add-comm, add-mul, mul-comm, mul-assoc, mul-right-comm, mul-lt-mul-of-pos-right, lt-of-mul-lt-mul-right, le-of-lt, sub-zero, add-zero, zero-add, zero-mul, lt-of-lt-of-le, lt-of-le-of-lt, le-of-eq}
 use native.Mathlib.Decide.{decLt}
 use native.Mathlib.Omega.{arith}
 use borrow.Author.Tests.{lt-ltb, le-ltb}
@@ -38,6 +38,7 @@ module _ (mode : Rounding) (f : Format) (s : Bool) (a : ℕ) (t : Bool) (b c : �
       none : (a b : ℕ) → a ≡ b → a - b ≡ 0
       none a b h = omega arith
 
+-- which of two numbers is the larger
 data Way (a b : ℕ) : Type 0 where
   less : a < b → Way a b
   more : b < a → Way a b
@@ -118,19 +119,40 @@ sum-at mode f (fin u m e) (fin v n g) s t a b c C h k =
     (mul-right-comm (m * up e) (down g) c ∙ ap (λ (z : ℕ). z * down g) (h .1) ∙ mul-assoc a (down e) (down g))
     (mul-right-comm (n * up g) (down e) c ∙ ap (λ (z : ℕ). z * down e) (k .1) ∙ mul-assoc b (down g) (down e) ∙ ap (λ (z : ℕ). b * z) (mul-comm (down g) (down e)))
 
+-- ---- the order of the operands plays no part
+
+same-sign : (s t : Bool) → Bool·beq s t ≡ true → s ≡ t
+same-sign true true e = refl
+same-sign false false e = refl
+same-sign true false e = sym e
+same-sign false true e = e
+
+pub sum-swap : (mode : Rounding) (f : Format) (s : Bool) (a : ℕ) (t : Bool) (b c : ℕ) → sumOf mode f s a t b c ≡ sumOf mode f t b s a c
+sum-swap mode f s a t b c = go (Bool·beq s t) refl (way a b)
+  where
+    turned : (s t : Bool) → Bool·beq t s ≡ Bool·beq s t
+    turned true true = refl
+    turned true false = refl
+    turned false true = refl
+    turned false false = refl
+
+    go : (w : Bool) → Bool·beq s t ≡ w → Way a b → sumOf mode f s a t b c ≡ sumOf mode f t b s a c
+    go true e h =
+        sum-like mode f s a t b c e
+        ∙ ap (λ (u : Bool). rounded mode f u (a + b) c) (same-sign s t e)
+        ∙ ap (λ (z : ℕ). rounded mode f t z c) (add-comm a b)
+        ∙ sym (sum-like mode f t b s a c (turned s t ∙ e))
+    go false e (less l) = sum-less mode f s a t b c e l ∙ sym (sum-more mode f t b s a c (turned s t ∙ e) l)
+    go false e (more l) = sum-more mode f s a t b c e l ∙ sym (sum-less mode f t b s a c (turned s t ∙ e) l)
+    go false e (level l) = sum-none mode f s a t b c e l ∙ sym (sum-none mode f t b s a c (turned s t ∙ e) (sym l))
+
 -- ---- a zero adds nothing
 
 pub zero-plus : (mode : Rounding) (f : Format) (s t : Bool) (b c : ℕ) → 0 < b → sumOf mode f s 0 t b c ≡ rounded mode f t b c
 zero-plus mode f s t b c B = go (Bool·beq s t) refl
   where
-    same : (s t : Bool) → Bool·beq s t ≡ true → s ≡ t
-    same true true e = refl
-    same false false e = refl
-    same true false e = sym e
-    same false true e = e
-
     go : (w : Bool) → Bool·beq s t ≡ w → sumOf mode f s 0 t b c ≡ rounded mode f t b c
-    go true e = sum-like mode f s 0 t b c e ∙ ap (λ (z : ℕ). rounded mode f s z c) (zero-add b) ∙ ap (λ (w : Bool). rounded mode f w b c) (same s t e)
+    go true e = sum-like mode f s 0 t b c e ∙ ap (λ (z : ℕ). rounded mode f s z c) (zero-add b) ∙ ap (λ (w : Bool). rounded mode f w b c) (same-sign s t e)
     go false e = sum-less mode f s 0 t b c e B ∙ ap (λ (z : ℕ). rounded mode f t z c) (sub-zero b)
 
 pub plus-zero : (mode : Rounding) (f : Format) (s t : Bool) (a c : ℕ) → 0 < a → sumOf mode f s a t 0 c ≡ rounded mode f s a c

@@ -47,6 +47,14 @@ own mode f s q k few lead most =
     before : (x y z : ℕ) → x < y → y - 1 ≤ z → x ≤ z
     before x y z a b = omega arith
 
+-- a word by its sign and the rest of it
+pub word-is : (f : Format) (b n : ℕ) → n ≡ b % top f → b < 2 * top f → cond (leb (top f) b) (top f) 0 + n ≡ b
+word-is f b n e l = ap (λ (z : ℕ). z + n) (sym (sign-bit (top f) b (top f) (top-pos f) l)) ∙ ap (λ (z : ℕ). b / top f * top f + z) e ∙ div-add-mod' b (top f)
+  where
+    top-pos : (f : Format) → 0 < top f
+    top-pos binary32 = lit< tt
+    top-pos binary64 = lit< tt
+
 -- a finite word stands for a whole number of smallest values, not 0 where its pattern is not, which rounds to the word itself
 pub record Sized (f : Format) (b : ℕ) : Type 0 where
   pub size : ℕ
@@ -83,13 +91,6 @@ sized f b h = go f (decLt 0 (b % top f / hid f)) h
     low-pattern binary32 z = omega arith
     low-pattern binary64 z = omega arith
 
-    word : (f : Format) (n : ℕ) → n ≡ b % top f → b < 2 * top f → cond (leb (top f) b) (top f) 0 + n ≡ b
-    word f n e l = ap (λ (z : ℕ). z + n) (sym (sign-bit (top f) b (top f) (top-pos f) l)) ∙ ap (λ (z : ℕ). b / top f * top f + z) e ∙ div-add-mod' b (top f)
-      where
-        top-pos : (f : Format) → 0 < top f
-        top-pos binary32 = lit< tt
-        top-pos binary64 = lit< tt
-
     go : (f : Format) → Dec (0 < b % top f / hid f) → b % top f < ones f * hid f → Sized f b
     go f (yes p) h =
         let x = b % top f / hid f in
@@ -97,14 +98,14 @@ sized f b h = go f (decLt 0 (b % top f / hid f)) h
           size = q * 2 ^ (x - 1);
           value = reads-normal f b (not-none x p) (under f h);
           some = λ _. mul-pos (lead f .0) (pow-pos (x - 1));
-          same = λ l (mode : Rounding). sym (own mode f (leb (top f) b) q (x - 1) (lead f .2) (inr (lead f .1)) (subst (λ (z : ℕ). z < ones f * hid f) (sym (normal f p)) h) ∙ word f _ (normal f p) l);
+          same = λ l (mode : Rounding). sym (own mode f (leb (top f) b) q (x - 1) (lead f .2) (inr (lead f .1)) (subst (λ (z : ℕ). z < ones f * hid f) (sym (normal f p)) h) ∙ word-is f b _ (normal f p) l);
         }
     go f (no n) h =
         let z : b % top f / hid f ≡ 0 = none (b % top f / hid f) n in record {
           size = b % hid f * 2 ^ 0;
           value = reads-low f b z;
           some = λ g. mul-pos (digits f z g) (pow-pos 0);
-          same = λ l (mode : Rounding). sym (own mode f (leb (top f) b) (b % hid f) 0 (lead f .3) (inl refl) (subst (λ (w : ℕ). w < ones f * hid f) (sym (low-pattern f z)) h) ∙ word f _ (low-pattern f z) l);
+          same = λ l (mode : Rounding). sym (own mode f (leb (top f) b) (b % hid f) 0 (lead f .3) (inl refl) (subst (λ (w : ℕ). w < ones f * hid f) (sym (low-pattern f z)) h) ∙ word-is f b _ (low-pattern f z) l);
         }
 
 -- ---- what is written

@@ -1,5 +1,6 @@
 -- A product of two numbers of 53 digits by their halves. Assumes nothing.
 use mathlib.Core.Path.{_≡_, sym, ap, _∙_}
+use mathlib.Core.Logic.{inl}
 use Prim.Native.Nat.{ℕ, _+_, _-_, _*_, _/_, _%_, _^_, _≤_, _<_}
 use native.Mathlib.Nat.{le-trans, le-of-eq, mul-le-mul, div-add-mod'}
 use native.Mathlib.Omega.{arith}
@@ -38,19 +39,28 @@ parts a b A B = record {
   whole = sym (ap (λ (x : ℕ). x * b) (div-add-mod' a 0x800_0000)) ∙ sym (ap (λ (x : ℕ). (a / 0x800_0000 * 0x800_0000 + a % 0x800_0000) * x) (div-add-mod' b 0x800_0000)) ∙ product (a / 0x800_0000) (a % 0x800_0000) (b / 0x800_0000) (b % 0x800_0000);
 }
 
-pub product-folded : (a b h l t : ℕ) → 2 ^ 52 ≤ a → 2 ^ 52 ≤ b → Halves (a * b) h l → t ≡ sticky l → IsFolded (a * b) (2 ^ 45) (h * 2 + t)
-product-folded a b h l t A B p e = record {
-  whole = h;
-  rest = l;
-  small = p .small;
-  sum = p .sum;
-  told = ap (λ (z : ℕ). h * 2 + z) e;
-  least = least (a * b) h l (mul-le-mul A B) (p .sum) (p .small);
-  below = below h t (p .fits) (le-trans (le-of-eq e) (sticky-le l));
-}
+pub product-folded : (a b h l t : ℕ) → 2 ^ 52 ≤ a → 2 ^ 52 ≤ b → Halves (a * b) h l → t ≡ sticky l → IsFolded 53 (a * b) (2 ^ 45) (h * 2 + t) × (0 < h * 2 + t)
+product-folded a b h l t A B p e = (folded, some h t large)
   where
     least : (x h l : ℕ) → 2 ^ 52 * 2 ^ 52 ≤ x → h * 2 ^ 45 + l ≡ x → l < 2 ^ 45 → 2 ^ 53 ≤ h
     least x h l X e L = omega arith
 
     below : (h t : ℕ) → h < 2 ^ 61 → t ≤ 1 → h * 2 + t < 2 ^ 62
     below h t H k = omega arith
+
+    some : (h t : ℕ) → 2 ^ 53 ≤ h → 0 < h * 2 + t
+    some h t H = omega arith
+
+    large : 2 ^ 53 ≤ h
+    large = least (a * b) h l (mul-le-mul A B) (p .sum) (p .small)
+
+    folded : IsFolded 53 (a * b) (2 ^ 45) (h * 2 + t)
+    folded = record {
+      whole = h;
+      rest = l;
+      small = p .small;
+      sum = p .sum;
+      told = ap (λ (z : ℕ). h * 2 + z) e;
+      enough = inl large;
+      below = below h t (p .fits) (le-trans (le-of-eq e) (sticky-le l));
+    }

@@ -12,7 +12,7 @@ use Rattle.operators.specs.Operators.{product}
 use Rattle.digits.specs.Digits.{IsOperand, IsFolded}
 use Rattle.packing.proofs.Written.{rounded-same}
 use Rattle.operators.proofs.Values.{product-at}
-use Rattle.digits.proofs.Sticky.{folded-rounds}
+use Rattle.digits.proofs.Sticky.{folded-rounds, most-digits}
 
 module _ (mode : Rounding) (f : Format) (x y : Float) (s t : Bool) (a ea b eb : ℕ) (p : IsOperand x s a ea) (q : IsOperand y t b eb) where
   -- any fraction that equals the product
@@ -22,10 +22,10 @@ module _ (mode : Rounding) (f : Format) (x y : Float) (s t : Bool) (a ea b eb : 
       ∙ sym (product-at mode f x y s t (a * 2 ^ ea) (2 ^ 1126) (b * 2 ^ eb) (2 ^ 1126) (pow-pos 1126) (pow-pos 1126) (p .value) (q .value))
 
   -- 45 digits are left below
-  pub folded-product : (m : ℕ) → IsFolded (a * b) (2 ^ 45) m → rounded mode f (unlike s t) (m * 2 ^ (ea + eb + 1)) (2 ^ 2209) ≡ product mode f x y
+  pub folded-product : (m : ℕ) → IsFolded 53 (a * b) (2 ^ 45) m → rounded mode f (unlike s t) (m * 2 ^ (ea + eb + 1)) (2 ^ 2209) ≡ product mode f x y
   folded-product m w =
       let e = ea + eb + 1 in
-      sym (folded-rounds mode f (unlike s t) (a * b) (2 ^ 45) m e w) ∙ by (a * b * 2 ^ suc e) (2 ^ 45 * 2 ^ 2209) (mul-pos (pow-pos 45) (pow-pos 2209)) same
+      sym (folded-rounds mode f (unlike s t) 53 (a * b) (2 ^ 45) m e (most-digits f) w) ∙ by (a * b * 2 ^ suc e) (2 ^ 45 * 2 ^ 2209) (mul-pos (pow-pos 45) (pow-pos 2209)) same
     where
       exponents : (ea eb : ℕ) → suc (ea + eb + 1) + (1126 + 1126) ≡ ea + eb + (45 + 2209)
       exponents ea eb = omega arith

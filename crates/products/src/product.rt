@@ -46,7 +46,7 @@ fn multiply(a: u64, b: u64) -> Product
 
 fn product_digits(a: u64, b: u64) -> u64
     requires { ⌜ (2 ^ 52 ≤ a) × (a < 2 ^ 53) × (2 ^ 52 ≤ b) × (b < 2 ^ 53) ⌝ }
-    ensures { λ m. ⌜ IsFolded (a * b) (2 ^ 45) m ⌝ }
+    ensures { λ m. ⌜ IsFolded 53 (a * b) (2 ^ 45) m × (0 < m) ⌝ }
 {
     let p = multiply(a, b);
     p.high * 2 + sticky(p.low)

@@ -1,5 +1,5 @@
 use Rattle.products.proofs.Numbers.{folded-product}
-use Rattle.digits.proofs.Raising.{settled-is, folded-pos}
+use Rattle.digits.proofs.Raising.{settled-is}
 use native.Mathlib.Omega.{arith}
 use lib.Ieee.{binary64}
 use borrow.Author.Needs.{needs}
@@ -31,10 +31,10 @@ add-raised64-2 : tie.Need-add-raised64-2
 add-raised64-2 c = search needs
 
 raised64-requires : tie.Need-raised64-requires
-raised64-requires c κs = (folded-pos _ _ _ (c .before .before .before .product-digits .ensures), c .before .before .before .product-digits .ensures .below, omega (arith, c .before .before .before .before .before .operand64 .ensures .range, c .before .before .before .before .operand642 .ensures .range))
+raised64-requires c κs = (c .before .before .before .product-digits .ensures .1, c .before .before .before .product-digits .ensures .0 .below, omega (arith, c .before .before .before .before .before .operand64 .ensures .range, c .before .before .before .before .operand642 .ensures .range))
 
 returns : tie.Need-returns
-returns c = settled-is (c .before .before .before .before .before .before .before .args .mode) binary64 _ _ _ _ _ _ _ _ _ (c .raised64 .ensures) (c .before .before .before .unlike .ensures) (folded-product (c .before .before .before .before .before .before .before .args .mode) binary64 _ _ _ _ _ _ _ _ (c .before .before .before .before .before .before .operand64 .ensures) (c .before .before .before .before .before .operand642 .ensures) _ (c .before .before .before .before .product-digits .ensures))
+returns c = settled-is (c .before .before .before .before .before .before .before .args .mode) binary64 _ _ _ _ _ _ _ _ _ (c .raised64 .ensures) (c .before .before .before .unlike .ensures) (folded-product (c .before .before .before .before .before .before .before .args .mode) binary64 _ _ _ _ _ _ _ _ (c .before .before .before .before .before .before .operand64 .ensures) (c .before .before .before .before .before .operand642 .ensures) _ (c .before .before .before .before .product-digits .ensures .0))
 
 pub number-product64-spec : {M : Type 1} → statement M
 number-product64-spec =
