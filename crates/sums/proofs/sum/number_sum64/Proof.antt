@@ -1,0 +1,44 @@
+use Rattle.sums.proofs.Numbers.{none-word, some-word}
+use lib.Ieee.{binary64}
+use borrow.Author.Needs.{needs}
+use Rattle.sums.proofs.sum.number_sum64.Statement.{statement}
+use Rattle.sums.proofs.sum.number_sum64.Tie as tie
+use Rattle.sums.proofs.sum.number_sum64.Reads as reads
+use Rattle.sums.proofs.sum.number_sum64.Lts as lts
+use Rattle.digits.proofs.operand.operand64.Reads as operand64-reads
+use Rattle.digits.proofs.raise.raised64.Reads as raised64-reads
+use Rattle.sums.proofs.sum.sum_digits.Reads as sum-digits-reads
+use Rattle.sums.proofs.sum.zero_sum64.Reads as zero-sum64-reads
+
+operand64-requires : tie.Need-operand64-requires
+operand64-requires c κs = search needs
+
+operand64-requires-2 : tie.Need-operand64-requires-2
+operand64-requires-2 c κs = search needs
+
+sum-digits-requires : tie.Need-sum-digits-requires
+sum-digits-requires c κs = search needs
+
+zero-sum64-requires : tie.Need-zero-sum64-requires
+zero-sum64-requires c κs = search needs
+
+returns : tie.Need-returns
+returns c = none-word (c .before .before .before .before .before .args .mode) binary64 _ _ _ _ _ _ _ _ _ _ _ (c .before .before .before .before .operand64 .ensures) (c .before .before .before .operand642 .ensures) (c .before .before .sum-digits .ensures) _ (c .before .if1 .taken) (c .zero-sum64 .ensures)
+
+raised64-requires : tie.Need-raised64-requires
+raised64-requires c κs = search needs
+
+returns-2 : tie.Need-returns-2
+returns-2 c = some-word (c .before .before .before .before .before .args .mode) binary64 _ _ _ _ _ _ _ _ _ _ _ (c .before .before .before .before .operand64 .ensures) (c .before .before .before .operand642 .ensures) (c .before .before .sum-digits .ensures) _ _ _ _ (c .before .if1 .left) (c .raised64 .ensures)
+
+pub number-sum64-spec : {M : Type 1} → statement M
+number-sum64-spec =
+    tie.close
+    (tie.spec
+    operand64-requires
+    operand64-requires-2
+    sum-digits-requires
+    zero-sum64-requires
+    returns
+    raised64-requires
+    returns-2)

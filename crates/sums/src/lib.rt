@@ -1,0 +1,2 @@
+// Sums and differences by integer work on the bits, in every rounding mode.
+pub mod sum;
