@@ -1,0 +1,2 @@
+-- The crate's definitions: what its stages give. Assumes nothing.
+pub mod Divided
