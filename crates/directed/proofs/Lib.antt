@@ -1,0 +1,5 @@
+-- The crate's laws that belong to no one function. Assumes nothing.
+pub mod Negation
+pub mod Fitting
+pub mod Applying
+pub mod Nearest
