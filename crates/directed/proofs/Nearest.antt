@@ -1,8 +1,10 @@
 -- At `Nearest` the arithmetic of one step is that of `numbers`, which native floats do. Assumes nothing.
-use mathlib.Core.Path.{_≡_, ap, _∙_}
+use mathlib.Core.Path.{_≡_, refl, ap, _∙_}
 use mathlib.Core.Bool.{cond}
-use Prim.Native.Nat.{ℕ}
+use Prim.Native.Nat.{ℕ, _/_, _%_, _^_}
+use borrow.Author.Tests.{eq-eqb}
 use lib.Ieee.{Float, Format, neg, add, sub, ofBits, toBits}
+use Rattle.rounding.specs.Rounding.{roundingOf}
 use Rattle.rounding.specs.declared.rounding.Rounding.the-variants.{Nearest}
 use Rattle.operators.specs.Operators.{sum, difference, product, quotient}
 use Rattle.numbers.specs.Arithmetic.{apply, defaultNan, anyNan, applied}
@@ -26,3 +28,8 @@ apply-nearest f Divide n m d = quotient-nearest f n m
 pub applied-nearest : (f : Format) (kind : Arithmetic) (n m d : ℕ) → appliedBy Nearest f kind n m d ≡ applied f kind n m d
 unfolding appliedBy applied
 applied-nearest f kind n m d = ap (λ (v : Float). cond (anyNan f kind n m d) (defaultNan f) (toBits f v)) (apply-nearest f kind (ofBits f n) (ofBits f m) (ofBits f d))
+
+-- mode 00
+pub mode-nearest : (control : ℕ) → control / 2 ^ 22 % 4 ≡ 0 → roundingOf control ≡ Nearest
+unfolding roundingOf
+mode-nearest control h = rw (eq-eqb (control / 2 ^ 22 % 4) 0 h) refl

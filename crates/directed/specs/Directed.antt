@@ -2,6 +2,8 @@
 use Prim.Native.Nat.{ℕ}
 use mathlib.Core.Bool.{cond}
 use lib.Ieee.{Float, Format, neg, ofBits, toBits}
+use Rattle.floats.specs.Flush.{flush}
+use Rattle.rounding.specs.Rounding.{roundingOf}
 use Rattle.rounding.specs.declared.rounding.Rounding.{Rounding}
 use Rattle.operators.specs.Operators.{sum, difference, product, quotient}
 use Rattle.numbers.specs.Arithmetic.{defaultNan, anyNan}
@@ -23,3 +25,8 @@ applyBy mode f Divide n m d = quotient mode f n m
 -- the result's word before flushing
 unfoldable pub appliedBy : Rounding → Format → Arithmetic → ℕ → ℕ → ℕ → ℕ
 appliedBy mode f kind n m d = cond (anyNan f kind n m d) (defaultNan f) (toBits f (applyBy mode f kind (ofBits f n) (ofBits f m) (ofBits f d)))
+
+-- by FPSCR: rounded by bits 23:22, then flushed by bit 24
+unfoldable pub arithmeticBy : Format → ℕ → Arithmetic → ℕ → ℕ → ℕ → ℕ
+unfolding appliedBy
+arithmeticBy f control kind n m d = flush f control (appliedBy (roundingOf control) f kind n m d)
