@@ -1,25 +1,28 @@
 -- What is left below enough leading digits is as good as one sticky digit. Over the mode and the format. Assumes nothing.
 use mathlib.Core.Path.{_≡_, refl, sym, ap, _∙_, subst}
 use mathlib.Core.Logic.{_⊎_, inl, inr}
-use mathlib.Core.Bool.{Bool, true, false}
+use mathlib.Core.Bool.{Bool, true, false, _&&_}
 use Prim.Native.Nat.{ℕ, zero, suc, _+_, _-_, _*_, _/_, _%_, _^_, _≤_, _<_, compare, Ordering, Ordering·lt, Ordering·eq, Ordering·gt}
-use native.Mathlib.Nat.{mul-assoc, mul-comm, mul-right-comm, mul-pos, add-mul, suc-mul, mul-le-mul-right, le-trans, le-of-eq, div-add-mod', mod-lt, add-assoc, zero-lt-suc, zero-mul, mul-le-mul, le-div-iff-mul-le, div-div-eq-div-mul, not-le-of-lt, lt-of-not-le, le-of-suc-le-suc, pow-succ'}
+use native.Mathlib.Nat.{mul-assoc, mul-comm, mul-right-comm, mul-pos, add-mul, suc-mul, mul-le-mul-right, le-trans, le-of-eq, div-add-mod', mod-lt, add-assoc, zero-lt-suc, zero-mul, mul-le-mul, le-div-iff-mul-le, div-div-eq-div-mul, div-one, div-le-self, div-lt-iff-lt-mul, not-le-of-lt, lt-of-not-le, le-of-suc-le-suc, pow-succ'}
 use native.Mathlib.Decide.{decLt}
 use native.Mathlib.Omega.{arith}
+use borrow.Author.Tests.{lt-ltb, le-ltb}
 use lib.Arith.{digits-div, digits-mod, digits-lt}
-use lib.Dec.{T, eqb, eqb→eq, lit≤}
+use lib.Dec.{T, leb, ltb, eqb, eqb→eq, lit≤}
 use lib.Pow.{pow-add, pow-pos, pow-mono}
-use lib.Ieee.{Format, binary32, binary64, prec, low}
+use lib.Ieee.{Format, binary32, binary64, prec, low, hid, toBits}
 use lib.Ieee.Fits.{kept-lt, eq→eqb}
 use lib.Ieee.Nearest.{div-same}
-use Rattle.rounding.specs.Rounding.{move, cutTo, settled, dropped, rounded}
+use Rattle.rounding.specs.Rounding.{move, cutTo, limit, settled, dropped, rounded, exact, over, tiny}
 use Rattle.rounding.specs.declared.rounding.Rounding.{Rounding}
+use Rattle.packing.specs.Pack.{IsSettled}
 use Rattle.digits.specs.Digits.{sticky, IsFolded}
 use Rattle.floats.proofs.Units.{Lead, drop-is}
-use Rattle.rounding.proofs.Cutting.{cut-same}
+use Rattle.rounding.proofs.Cutting.{cut-same, rest-same}
 use Rattle.rounding.proofs.Order.{Cmp, cmp, compare-is, compare-scale}
 use Rattle.packing.proofs.Written.{rounded-same}
 use Rattle.packing.proofs.Formed.{lead-digit}
+use Rattle.packing.proofs.Settle.{settled-same}
 
 -- a number q * u + p and a part r / v of one, against a half: u is twice h
 module _ (p h v r : ℕ) (R : r < v) where
@@ -132,6 +135,12 @@ same-eqb a b f g = go (eqb a 0) (eqb b 0) (λ t. eq→eqb (f (eqb→eq a 0 t))) 
     go false true p q = absurd (q tt)
     go false false p q = refl
 
+split : (a r v u : ℕ) → a * v + r ≡ a / u * (u * v) + (a % u * v + r)
+split a r v u =
+    ap (λ (z : ℕ). z * v + r) (sym (div-add-mod' a u))
+    ∙ ap (λ (z : ℕ). z + r) (add-mul (a / u * u) (a % u) v ∙ ap (λ (z : ℕ). z + a % u * v) (mul-assoc (a / u) u v))
+    ∙ add-assoc (a / u * (u * v)) (a % u * v) r
+
 -- a and r of v, cut by u of v, is 2 * a and one more where r is not 0, cut by 2 * u
 pub cut-sticky : (mode : Rounding) (s : Bool) (a r v u h : ℕ) → r < v → 0 < h → u ≡ 2 * h → cutTo mode s (a * v + r) (u * v) ≡ cutTo mode s (a * 2 + sticky r) (u * 2)
 cut-sticky mode s a r v u h R H e =
@@ -167,11 +176,14 @@ cut-sticky mode s a r v u h R H e =
     pos : (u h : ℕ) → 0 < h → u ≡ 2 * h → 0 < u
     pos u h H e = omega arith
 
-    split : (a r v u : ℕ) → a * v + r ≡ a / u * (u * v) + (a % u * v + r)
-    split a r v u =
-        ap (λ (z : ℕ). z * v + r) (sym (div-add-mod' a u))
-        ∙ ap (λ (z : ℕ). z + r) (add-mul (a / u * u) (a % u) v ∙ ap (λ (z : ℕ). z + a % u * v) (mul-assoc (a / u) u v))
-        ∙ add-assoc (a / u * (u * v)) (a % u * v) r
+-- and nothing is left of the one where nothing is left of the other
+rest-sticky : (a r v u : ℕ) → r < v → 0 < u → eqb ((a * v + r) % (u * v)) 0 ≡ eqb ((a * 2 + sticky r) % (u * 2)) 0
+rest-sticky a r v u R U =
+    let p = a % u in
+    ap (λ (z : ℕ). eqb z 0) (ap (λ (z : ℕ). z % (u * v)) (split a r v u) ∙ digits-mod (a / u) (digits-lt (mod-lt a U) R))
+    ∙ same-eqb (p * v + r) (2 * p + sticky r) (zero-both p v r R) (both-zero p v r)
+    ∙ ap (λ (z : ℕ). eqb (z + sticky r) 0) (mul-comm 2 p)
+    ∙ sym (ap (λ (z : ℕ). eqb z 0) (ap (λ (z : ℕ). z % (u * 2)) (split a (sticky r) 2 u) ∙ digits-mod (a / u) (digits-lt (mod-lt a U) (sticky-lt r))))
 
 -- ---- at a format: where the whole part alone has more digits than the format keeps, what is left below it may be folded into one digit
 
@@ -269,43 +281,117 @@ module _ (mode : Rounding) (f : Format) (s : Bool) (a v r E D : ℕ) (R : r < v)
       ap (λ (z : ℕ). settled mode f s z k) same-cut
       ∙ sym (ap (λ (z : ℕ). settled mode f s (cutTo mode s m (2 * 2 ^ D * 2 ^ z)) z) same-dropped)
 
+  pub exact-sticky : exact f ((a * v + r) * 2 ^ E) (v * 2 ^ D) ≡ exact f ((a * 2 + sticky r) * 2 ^ E) (2 * 2 ^ D)
+  unfolding exact
+  exact-sticky =
+      let u = 2 ^ suc w in
+      rest-same n (den * 2 ^ k) (a * v + r) (u * v) (mul-pos DEN (pow-pos k)) (mul-pos (pow-pos (suc w)) some-v) (scale (a * v + r) (low f) v D k (suc w) E exps)
+      ∙ rest-sticky a r v u R (pow-pos (suc w))
+      ∙ sym (rest-same m (2 * 2 ^ D * 2 ^ k) (a * 2 + sticky r) (u * 2) (mul-pos (mul-pos (zero-lt-suc 1) (pow-pos D)) (pow-pos k)) (mul-pos (pow-pos (suc w)) (zero-lt-suc 1)) (scale (a * 2 + sticky r) (low f) 2 D k (suc w) E exps))
+      ∙ sym (ap (λ (z : ℕ). eqb (m % (2 * 2 ^ D * 2 ^ z)) 0) same-dropped)
+
+  pub over-sticky : over mode f s ((a * v + r) * 2 ^ E) (v * 2 ^ D) ≡ over mode f s ((a * 2 + sticky r) * 2 ^ E) (2 * 2 ^ D)
+  unfolding over
+  over-sticky =
+      ap (λ (z : ℕ). leb (limit f) (z * 2 ^ k)) same-cut
+      ∙ sym (ap (λ (z : ℕ). leb (limit f) (cutTo mode s m (2 * 2 ^ D * 2 ^ z) * 2 ^ z)) same-dropped)
+
+  -- both are below the least normal value, or none is
+  low-alike : (x y : ℕ) → Lead f k (x / 2 ^ k) → y / 2 ^ k ≡ x / 2 ^ k → x < hid f → y < hid f
+  low-alike x y (inl z) e h = subst (λ (i : ℕ). i < hid f) (sym (sym (div-one y) ∙ ap (λ (j : ℕ). y / 2 ^ j) (sym z) ∙ e ∙ ap (λ (j : ℕ). x / 2 ^ j) z ∙ div-one x)) h
+  low-alike x y (inr g) e h = absurd (not-le-of-lt h (le-trans g (div-le-self x (2 ^ k))))
+
+  pub tiny-sticky : tiny f ((a * v + r) * 2 ^ E) (v * 2 ^ D) ≡ tiny f ((a * 2 + sticky r) * 2 ^ E) (2 * 2 ^ D)
+  unfolding tiny
+  tiny-sticky =
+      ap (λ (z : Bool). z && ltb n (hid f * den)) (lt-ltb 0 ((a * v + r) * 2 ^ E) (positive v r some-v) ∙ sym (lt-ltb 0 ((a * 2 + sticky r) * 2 ^ E) (positive 2 (sticky r) (zero-lt-suc 1))))
+      ∙ ap (λ (z : Bool). ltb 0 ((a * 2 + sticky r) * 2 ^ E) && z) (go (decLt n (hid f * den)) (decLt m (hid f * (2 * 2 ^ D))))
+    where
+      more : (x y : ℕ) → 0 < x → 0 < x + y
+      more x y h = omega arith
+
+      positive : (x y : ℕ) → 0 < x → 0 < (a * x + y) * 2 ^ E
+      positive x y h = mul-pos (more (a * x) y (mul-pos (le-trans (pow-pos (prec f)) A) h)) (pow-pos E)
+
+      two : 0 < 2 * 2 ^ D
+      two = mul-pos (zero-lt-suc 1) (pow-pos D)
+
+      there : n < hid f * den → m < hid f * (2 * 2 ^ D)
+      there h = div-lt-iff-lt-mul two .0 (low-alike (n / den) (m / (2 * 2 ^ D)) (lead-digit f (n / den)) same-kept (div-lt-iff-lt-mul DEN .1 h))
+
+      back : m < hid f * (2 * 2 ^ D) → n < hid f * den
+      back h =
+          div-lt-iff-lt-mul DEN .0
+          (low-alike (m / (2 * 2 ^ D)) (n / den) (subst (λ (j : ℕ). Lead f j (m / (2 * 2 ^ D) / 2 ^ j)) same-dropped (lead-digit f (m / (2 * 2 ^ D)))) (sym same-kept) (div-lt-iff-lt-mul two .1 h))
+
+      not-less : (x y : ℕ) → (x < y → ⊥) → y ≤ x
+      not-less x y h = omega arith
+
+      go : Dec (n < hid f * den) → Dec (m < hid f * (2 * 2 ^ D)) → ltb n (hid f * den) ≡ ltb m (hid f * (2 * 2 ^ D))
+      go (yes h) d = lt-ltb n (hid f * den) h ∙ sym (lt-ltb m (hid f * (2 * 2 ^ D)) (there h))
+      go (no i) (yes h) = absurd (i (back h))
+      go (no i) (no j) = le-ltb n (hid f * den) (not-less n (hid f * den) i) ∙ sym (le-ltb m (hid f * (2 * 2 ^ D)) (not-less m (hid f * (2 * 2 ^ D)) j))
+
 -- for the last stage, where the format keeps no more digits than there are
-pub folded-rounds : (mode : Rounding) (f : Format) (s : Bool) (n x v m e : ℕ) → prec f ≤ n → IsFolded n x v m
-    → rounded mode f s (x * 2 ^ suc e) (v * 2 ^ 2209) ≡ rounded mode f s (m * 2 ^ e) (2 ^ 2209)
-folded-rounds mode f s n x v m e h p = ap (λ (z : ℕ). rounded mode f s (z * 2 ^ suc e) (v * 2 ^ 2209)) (sym (p .sum)) ∙ go (p .enough)
-  where
-    a : ℕ
-    a = p .whole
+module _ (mode : Rounding) (f : Format) (s : Bool) (n x v m e : ℕ) (h : prec f ≤ n) (p : IsFolded n x v m) where
+  abbrev top : ℕ
+  top = p .whole
 
-    r : ℕ
-    r = p .rest
+  abbrev rest : ℕ
+  rest = p .rest
 
-    some : (r v : ℕ) → r < v → 0 < v
-    some r v h = omega arith
+  some-divisor : 0 < v
+  some-divisor = some rest v (p .small)
+    where
+      some : (r v : ℕ) → r < v → 0 < v
+      some r v h = omega arith
 
-    some-v : 0 < v
-    some-v = some r v (p .small)
+  enough : 2 ^ n ≤ top → 2 ^ prec f ≤ top
+  enough l = le-trans (pow-mono h) l
 
-    halved : (m e d : ℕ) → m * (2 * e) * d ≡ m * e * (2 * d)
-    halved m e d = omega arith
+  two : 0 < 2 * 2 ^ 2209
+  two = mul-pos (zero-lt-suc 1) (pow-pos 2209)
 
-    twice : (a v e d : ℕ) → (a * v + 0) * (2 * e) * d ≡ (a * 2 + 0) * e * (v * d)
-    twice a v e d = omega arith
+  -- with the sticky digit, and where nothing is left
+  same : (top * 2 + sticky rest) * 2 ^ suc e * 2 ^ 2209 ≡ m * 2 ^ e * (2 * 2 ^ 2209)
+  same = ap (λ (z : ℕ). z * 2 ^ suc e * 2 ^ 2209) (sym (p .told)) ∙ ap (λ (z : ℕ). m * z * 2 ^ 2209) (pow-succ' 2 e) ∙ halved m (2 ^ e) (2 ^ 2209)
+    where
+      halved : (m e d : ℕ) → m * (2 * e) * d ≡ m * e * (2 * d)
+      halved m e d = omega arith
 
-    exact : r ≡ 0 → (a * v + r) * 2 ^ suc e * 2 ^ 2209 ≡ m * 2 ^ e * (v * 2 ^ 2209)
-    exact z =
-        ap (λ (t : ℕ). (a * v + t) * 2 ^ suc e * 2 ^ 2209) z
-        ∙ ap (λ (t : ℕ). (a * v + 0) * t * 2 ^ 2209) (pow-succ' 2 e)
-        ∙ twice a v (2 ^ e) (2 ^ 2209)
-        ∙ ap (λ (t : ℕ). (a * 2 + t) * 2 ^ e * (v * 2 ^ 2209)) (sym (ap sticky z))
-        ∙ ap (λ (t : ℕ). t * 2 ^ e * (v * 2 ^ 2209)) (sym (p .told))
+  same-exact : rest ≡ 0 → (top * v + rest) * 2 ^ suc e * 2 ^ 2209 ≡ m * 2 ^ e * (v * 2 ^ 2209)
+  same-exact z =
+      ap (λ (t : ℕ). (top * v + t) * 2 ^ suc e * 2 ^ 2209) z
+      ∙ ap (λ (t : ℕ). (top * v + 0) * t * 2 ^ 2209) (pow-succ' 2 e)
+      ∙ twice top v (2 ^ e) (2 ^ 2209)
+      ∙ ap (λ (t : ℕ). (top * 2 + t) * 2 ^ e * (v * 2 ^ 2209)) (sym (ap sticky z))
+      ∙ ap (λ (t : ℕ). t * 2 ^ e * (v * 2 ^ 2209)) (sym (p .told))
+    where
+      twice : (a v e d : ℕ) → (a * v + 0) * (2 * e) * d ≡ (a * 2 + 0) * e * (v * d)
+      twice a v e d = omega arith
 
-    go : (2 ^ n ≤ a) ⊎ (r ≡ 0) → rounded mode f s ((a * v + r) * 2 ^ suc e) (v * 2 ^ 2209) ≡ rounded mode f s (m * 2 ^ e) (2 ^ 2209)
-    go (inl l) =
-        rounded-sticky mode f s a v r (suc e) 2209 (p .small) (le-trans (pow-mono h) l)
-        ∙ rounded-same mode f s ((a * 2 + sticky r) * 2 ^ suc e) (2 * 2 ^ 2209) (m * 2 ^ e) (2 ^ 2209) (mul-pos (zero-lt-suc 1) (pow-pos 2209)) (pow-pos 2209)
-        (ap (λ (z : ℕ). z * 2 ^ suc e * 2 ^ 2209) (sym (p .told)) ∙ ap (λ (z : ℕ). m * z * 2 ^ 2209) (pow-succ' 2 e) ∙ halved m (2 ^ e) (2 ^ 2209))
-    go (inr z) = rounded-same mode f s ((a * v + r) * 2 ^ suc e) (v * 2 ^ 2209) (m * 2 ^ e) (2 ^ 2209) (mul-pos some-v (pow-pos 2209)) (pow-pos 2209) (exact z)
+  pub folded-rounds : rounded mode f s (x * 2 ^ suc e) (v * 2 ^ 2209) ≡ rounded mode f s (m * 2 ^ e) (2 ^ 2209)
+  folded-rounds = ap (λ (z : ℕ). rounded mode f s (z * 2 ^ suc e) (v * 2 ^ 2209)) (sym (p .sum)) ∙ go (p .enough)
+    where
+      go : (2 ^ n ≤ top) ⊎ (rest ≡ 0) → rounded mode f s ((top * v + rest) * 2 ^ suc e) (v * 2 ^ 2209) ≡ rounded mode f s (m * 2 ^ e) (2 ^ 2209)
+      go (inl l) =
+          rounded-sticky mode f s top v rest (suc e) 2209 (p .small) (enough l)
+          ∙ rounded-same mode f s ((top * 2 + sticky rest) * 2 ^ suc e) (2 * 2 ^ 2209) (m * 2 ^ e) (2 ^ 2209) two (pow-pos 2209) same
+      go (inr z) = rounded-same mode f s ((top * v + rest) * 2 ^ suc e) (v * 2 ^ 2209) (m * 2 ^ e) (2 ^ 2209) (mul-pos some-divisor (pow-pos 2209)) (pow-pos 2209) (same-exact z)
+
+  -- and what else is told of it: whether it is exact, too large or tiny
+  pub folded-settles : (bits : ℕ) (i o t : Bool) → IsSettled mode f s (m * 2 ^ e) (2 ^ 2209) bits i o t → IsSettled mode f s (x * 2 ^ suc e) (v * 2 ^ 2209) bits i o t
+  folded-settles bits i o t q = subst (λ (z : ℕ). IsSettled mode f s (z * 2 ^ suc e) (v * 2 ^ 2209) bits i o t) (p .sum) (go (p .enough))
+    where
+      go : (2 ^ n ≤ top) ⊎ (rest ≡ 0) → IsSettled mode f s ((top * v + rest) * 2 ^ suc e) (v * 2 ^ 2209) bits i o t
+      go (inl l) =
+          let w = settled-same mode f s (m * 2 ^ e) (2 ^ 2209) ((top * 2 + sticky rest) * 2 ^ suc e) (2 * 2 ^ 2209) bits i o t (pow-pos 2209) two (sym same) q in record {
+            bits-are = w .bits-are ∙ ap (toBits f) (sym (rounded-sticky mode f s top v rest (suc e) 2209 (p .small) (enough l)));
+            exact-is = w .exact-is ∙ sym (exact-sticky mode f s top v rest (suc e) 2209 (p .small) (enough l));
+            over-is = w .over-is ∙ sym (over-sticky mode f s top v rest (suc e) 2209 (p .small) (enough l));
+            tiny-is = w .tiny-is ∙ sym (tiny-sticky mode f s top v rest (suc e) 2209 (p .small) (enough l));
+          }
+      go (inr z) = settled-same mode f s (m * 2 ^ e) (2 ^ 2209) ((top * v + rest) * 2 ^ suc e) (v * 2 ^ 2209) bits i o t (pow-pos 2209) (mul-pos some-divisor (pow-pos 2209)) (sym (same-exact z)) q
 
 -- a double keeps 53 digits, a single fewer
 pub most-digits : (f : Format) → prec f ≤ 53
