@@ -48,7 +48,7 @@ extern "C" {
 #define FPU_UNDEFINED 2 /* has an address and a word */
 #define FPU_BRANCHED 3
 #define FPU_HANGS 4     /* of the watched run only; has a place */
-#define FPU_REFUSED 100 /* 100 + n for refusal n; everything is as it came, and the answer's words, or grants, are 0 */
+#define FPU_REFUSED 100 /* 100 + n for refusal n; everything is as it came (fpu_replay: its window is), and the answer's words, or grants, are 0 */
 #define FPU_REFUSED_LIST_LONG 101        /* of runs only: more than 4,096 words */
 #define FPU_REFUSED_WINDOW_LONG 102      /* more than 16,384 words */
 #define FPU_REFUSED_BASE_ALIGNMENT 103   /* the base is no multiple of 4 */
@@ -57,6 +57,9 @@ extern "C" {
 #define FPU_REFUSED_WINDOW_MARKS 106     /* of the watched run only: not as many window marks as window words */
 #define FPU_REFUSED_WINDOW_MARK 107      /* of the watched run only: a window mark that is neither 0 nor 1 */
 #define FPU_REFUSED_PAGE 108             /* of fpu_sheet only: a page of fewer than 656 bytes */
+#define FPU_REFUSED_RECORD_SIZE 109      /* of fpu_replay only: not as many bytes as the counts call for, fewer than 52 state words, or another
+                                          * number of words or marks lent than the record's window has */
+#define FPU_REFUSED_RECORD_STATE 110     /* of fpu_replay only: a bit outside a place's own, or a mark before the window that is neither 0 nor 1 */
 #define FPU_REFUSED_ROUTINES 114         /* of fpu_grant only: no routine or more than eight */
 #define FPU_REFUSED_SHARE 115            /* of fpu_grant only: a share above its limit */
 #define FPU_REFUSED_SHARES 116           /* of fpu_grant only: shares that add up to more than the period */
@@ -96,6 +99,15 @@ uint32_t fpu_run(uint32_t *state, size_t state_words, uint32_t *window, size_t w
 uint32_t fpu_watch(uint32_t *state, size_t state_words, uint64_t *marks, uint32_t *window, size_t window_words, uint8_t *window_marks,
                    size_t window_marks_bytes, uint32_t base, uint32_t thumb, const uint32_t *list, size_t list_words,
                    uint32_t *answer, size_t answer_words);
+
+/* Replays a recorded cycle under the watch. A record is bytes, each number 32 bits, little end first: how many instruction words, how many state words,
+ * the value of each state word, the mark of each, the base, the instruction words. The first 52 state words are places 0 to 51 as in a state, the
+ * others a window, which is laid with its marks into the two lent buffers; they have to be as long as it is. `state` and `marks` are written only.
+ * It gives and leaves what fpu_watch gives and leaves on that state, with `thumb` 0. Or it is refused, the first that applies of 109, 110, 101 to 104
+ * and 107: then the two buffers are as they came, the state is a new machine's, and `marks` is 0. FPU_INVALID_ARGUMENT is for the lengths
+ * of the state and the answer. */
+uint32_t fpu_replay(const uint8_t *record, size_t record_bytes, uint32_t *state, size_t state_words, uint64_t *marks, uint32_t *window,
+                    size_t window_words, uint8_t *window_marks, size_t window_marks_bytes, uint32_t *answer, size_t answer_words);
 
 /* Whether an instruction of a condition (its low four bits) is executed under the flags of place 51: 1 or 0, or FPU_INVALID_ARGUMENT where
  * another bit of nzcv is set. */

@@ -51,6 +51,19 @@ extern "C" {
         answer: *mut u32,
         answer_words: usize,
     ) -> c_uint;
+    fn fpu_replay(
+        record: *const u8,
+        record_bytes: usize,
+        state: *mut u32,
+        state_words: usize,
+        marks: *mut u64,
+        window: *mut u32,
+        window_words: usize,
+        window_marks: *mut u8,
+        window_marks_bytes: usize,
+        answer: *mut u32,
+        answer_words: usize,
+    ) -> c_uint;
     fn fpu_check_condition(condition: u32, nzcv: u32) -> c_uint;
     fn fpu_operation(word: u32) -> c_uint;
     fn fpu_sheet(state: *const u32, state_words: usize, marks: u64, page: *mut u8, page_bytes: usize) -> c_uint;
@@ -138,6 +151,31 @@ pub mod raw {
                 thumb,
                 list.as_ptr(),
                 list.len(),
+                answer.as_mut_ptr(),
+                answer.len(),
+            )
+        }
+    }
+
+    pub fn replay(
+        record: &[u8],
+        state: &mut [u32],
+        marks: &mut u64,
+        window: &mut [u32],
+        window_marks: &mut [u8],
+        answer: &mut [u32],
+    ) -> u32 {
+        unsafe {
+            super::fpu_replay(
+                record.as_ptr(),
+                record.len(),
+                state.as_mut_ptr(),
+                state.len(),
+                marks,
+                window.as_mut_ptr(),
+                window.len(),
+                window_marks.as_mut_ptr(),
+                window_marks.len(),
                 answer.as_mut_ptr(),
                 answer.len(),
             )
@@ -235,7 +273,7 @@ fn ran(kind: u32, answer: [u32; ANSWER_WORDS]) -> Result<Ran, InvalidArgument> {
         2 => Stop::Undefined { address: answer[2], word: answer[3] },
         3 => Stop::Branched,
         4 => Stop::Hangs(answer[1]),
-        101..=107 => Stop::Refused((kind - 100) as u8),
+        101..=107 | 109 | 110 => Stop::Refused((kind - 100) as u8),
         255 => return Err(InvalidArgument),
         _ => unreachable!("kind {kind}"),
     };
@@ -300,6 +338,17 @@ impl Machine {
             255 => Err(InvalidArgument),
             refused => unreachable!("result {refused}"),
         }
+    }
+}
+
+/// The machine in ARM state that the replay of a record leaves, the marks of its places, and how it ended. The record's window and its marks are laid into
+/// the two buffers, which have to be as long; a refusal leaves them as they came, the machine new and every mark 0.
+pub fn replay(record: &[u8], window: &mut [u32], window_marks: &mut [u8]) -> (Machine, u64, Ran) {
+    let (mut state, mut marks, mut answer) = ([0; STATE_WORDS], 0, [0; ANSWER_WORDS]);
+    let kind = raw::replay(record, &mut state, &mut marks, window, window_marks, &mut answer);
+    match ran(kind, answer) {
+        Ok(ran) => (Machine { state, thumb: false }, marks, ran),
+        Err(InvalidArgument) => unreachable!("the lengths are right"),
     }
 }
 

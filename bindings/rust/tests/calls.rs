@@ -1,7 +1,7 @@
 //! A few calls by the wrapper, and what 255 does.
 
 use fpu::{
-    grant, operation, raw, Exit, InvalidArgument, Machine, Operation, Ran, Routine, Stop, TurnedAway, MARKS_ALL, OPERATIONS, SHEET_BYTES,
+    grant, operation, raw, replay, Exit, InvalidArgument, Machine, Operation, Ran, Routine, Stop, TurnedAway, MARKS_ALL, OPERATIONS, SHEET_BYTES,
 };
 
 #[test]
@@ -190,4 +190,33 @@ fn grants() {
     let mut lent = [7; 2];
     assert_eq!((raw::grant(3, &[0; 2], &[3; 3], &[3; 2], &mut lent), lent), (255, [7; 2]));
     assert_eq!((raw::grant(1, &[2; 2], &[2; 2], &[0; 2], &mut lent), lent), (116, [0; 2]));
+}
+
+/// A record of a state, its marks, a window of which every word is known, a base and a list.
+fn record(state: &[u32], marks: u64, window: &[u32], base: u32, list: &[u32]) -> Vec<u8> {
+    let words = state.len() + window.len();
+    let mut numbers = vec![list.len() as u32, words as u32];
+    numbers.extend(state.iter().chain(window));
+    numbers.extend((0..state.len()).map(|p| (marks >> p & 1) as u32).chain(window.iter().map(|_| 1)));
+    numbers.push(base);
+    numbers.extend(list);
+    numbers.iter().flat_map(|n| n.to_le_bytes()).collect()
+}
+
+#[test]
+fn a_record() {
+    let mut m = Machine::new();
+    m.state[1] = 1.0f32.to_bits();
+    m.state[32] = 0x8004;
+    let (mut marks, mut window, mut window_marks) = (MARKS_ALL ^ 4, [7, 8, 9], [1; 3]);
+    let list = [0xEE30_0A81, 0xED80_0A00, 0xEE30_1AA0];
+    let bytes = record(&m.state, marks, &window, 0x8000, &list);
+    let (mut w, mut v) = ([0xA5A5_A5A5; 3], [9; 3]);
+    let (left, known, ran) = replay(&bytes, &mut w, &mut v);
+    assert_eq!(Ok(ran), m.watch(&mut marks, &mut window, &mut window_marks, 0x8000, &list));
+    assert_eq!((left, known, w, v), (m, marks, window, window_marks));
+    assert_eq!((known & 1, v), (0, [1, 0, 1]));
+    let (left, known, ran) = replay(&bytes[1..], &mut w, &mut v);
+    assert_eq!((left, known, ran), (Machine::new(), 0, Ran { stop: Stop::Refused(9), count: 0 }));
+    assert_eq!((w, v), (window, window_marks));
 }

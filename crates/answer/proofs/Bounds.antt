@@ -220,7 +220,7 @@ run-fits base list st = by (eqb n 0) refl
 pub ran-fits : (base : ℕ) (list : List ℕ) (st : State) (x : Ran) (w : List ℕ) → Run.answered x w ≡ Run.runReply base list st → Fits (report (stopOf (x .stop))) (x .count)
 ran-fits base list st x w e = subst (λ (y : Run.Reply). Fits (y .report) (y .count)) (sym e) (run-fits base list st)
 
-watch-fits : (base : ℕ) (list : List ℕ) (st : State) (μ : Map) → Fits (watchReply base list st μ .report) (watchReply base list st μ .count)
+pub watch-fits : (base : ℕ) (list : List ℕ) (st : State) (μ : Map) → Fits (watchReply base list st μ .report) (watchReply base list st μ .count)
 unfolding watchReply
 watch-fits base list st μ = by (eqb n 0) refl
   where

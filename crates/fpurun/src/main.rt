@@ -1,7 +1,8 @@
 // Runs a list of instruction words under the watch, and tells where the run stops, what it hangs on and what is known then; with --sheet it
-// also prints the register sheet as it is then; with --list it lists the words with their addresses in the manual's spelling instead.
+// also prints the register sheet as it is then; with --list it lists the words with their addresses in the manual's spelling instead; with --write it
+// makes a record of the text, and with --record it replays one and tells the same.
 //
-// It reads the file that its last argument names, or standard input, one item a line:
+// It reads the file that an argument names, or standard input. A text has one item a line:
 //
 //     EE300A00              an instruction word, eight hexadecimal digits
 //     set PLACE VALUE       what a place holds at power-up, 1 to 8 hexadecimal digits, 0x before them or not
@@ -22,6 +23,7 @@ mod input;
 mod mistakes;
 mod outcome;
 mod output;
+mod record;
 mod words;
 
 use arguments::Mode;
@@ -81,6 +83,8 @@ fn carry_out(
             Mode::Sheet,
         ),
         Mode::List => list_words(layout, state, marks, list),
+        Mode::Write => write_record(layout, state, marks, window, window_marks, list),
+        Mode::Record => {} // has no text
     }
 }
 
@@ -90,6 +94,33 @@ fn list_words(layout: Layout, state: [u32; WINDOW], marks: u64, list: [u32; 4096
         return;
     }
     words::list(state, marks, &list[..count]);
+}
+
+// A record of what the text says.
+fn write_record(
+    layout: Layout,
+    state: [u32; WINDOW],
+    marks: u64,
+    window: [u32; 16384],
+    window_marks: [u8; 16384],
+    list: [u32; 4096],
+) {
+    let words = layout.words;
+    let count = layout.count;
+    if 16384 < words {
+        return;
+    }
+    if 4096 < count {
+        return;
+    }
+    record::write(
+        &state,
+        marks,
+        &window[..words],
+        &window_marks[..words],
+        layout.base,
+        &list[..count],
+    );
 }
 
 // Runs the list, and tells what came of it beside what was there before.
@@ -146,12 +177,40 @@ fn run_parts(
     let mut answer = [0u32; 4];
     let kind = fpu::fpu_watch(s, m, w, v, base, 0, list, &mut answer);
     let after = *m;
-    outcome::stop(kind, answer, list, s, after);
-    outcome::unknown(after, v);
-    outcome::changed(state, marks, window, window_marks, s, after, w, v);
+    outcome::report(
+        kind,
+        answer,
+        list,
+        state,
+        marks,
+        window,
+        window_marks,
+        s,
+        after,
+        w,
+        v,
+    );
     if let Mode::Sheet = mode {
         outcome::sheet(s, after);
     }
+}
+
+// A record is replayed; all else is a text.
+fn take_bytes(mode: Mode, bytes: &[u8]) {
+    if let Mode::Record = mode {
+        record::replay(bytes);
+        return;
+    }
+    take_text(mode, bytes);
+}
+
+// More bytes than there is room for.
+fn too_long(mode: Mode, bytes: &[u8]) {
+    if let Mode::Record = mode {
+        record::too_long();
+        return;
+    }
+    mistakes::too_long(bytes);
 }
 
 // Room for a text.
@@ -168,10 +227,10 @@ fn take_input(mode: Mode, fd: i32, name: &[u8]) {
         Input::Failed => os::fail(name),
         Input::Bytes(n) => {
             if n < 524288 {
-                take_text(mode, &text[..n]);
+                take_bytes(mode, &text[..n]);
                 return;
             }
-            mistakes::too_long(&text);
+            too_long(mode, &text);
         }
     }
 }
@@ -201,10 +260,26 @@ fn take_argument(mode: Mode, argument: usize) {
         return;
     }
     if argument + 1 < given {
-        io::write_all(STDOUT_FILENO, b"usage: fpurun [--list | --sheet] [FILE]\n");
+        usage();
         return;
     }
     take_file(mode, argument);
+}
+
+fn usage() {
+    io::write_all(
+        STDOUT_FILENO,
+        b"usage: fpurun [--list | --sheet | --record] [FILE], or fpurun --write FILE OUT\n",
+    );
+}
+
+// The text's file and the record's.
+fn take_both() {
+    if os::arg_count() != 4 {
+        usage();
+        return;
+    }
+    take_file(Mode::Write, 2);
 }
 
 // A first argument that names a mode stands before the file.
@@ -216,5 +291,7 @@ fn main() {
         Mode::Run => take_argument(Mode::Run, 1),
         Mode::Sheet => take_argument(Mode::Sheet, 2),
         Mode::List => take_argument(Mode::List, 2),
+        Mode::Record => take_argument(Mode::Record, 2),
+        Mode::Write => take_both(),
     }
 }

@@ -15,7 +15,7 @@ fn text(b: &[u8]) {
 }
 
 // The stop of a run by the number of its kind, with the count, the place, the address and the word of its answer.
-pub fn stop(kind: u32, answer: [u32; 4], list: &[u32], state: &[u32], marks: u64) {
+fn stop(kind: u32, answer: [u32; 4], list: &[u32], state: &[u32], marks: u64) {
     let count = answer[0] as usize;
     print(line::stop(kind, count, answer[1], answer[2], list, state, marks));
     text(b"\n");
@@ -24,7 +24,7 @@ pub fn stop(kind: u32, answer: [u32; 4], list: &[u32], state: &[u32], marks: u64
     text(b"\n");
 }
 
-pub fn unknown(marks: u64, window_marks: &[u8]) {
+fn unknown(marks: u64, window_marks: &[u8]) {
     text(b"unknown:");
     let end = window_marks.len() + WINDOW;
     let mut first = true;
@@ -40,7 +40,7 @@ pub fn unknown(marks: u64, window_marks: &[u8]) {
     text(b"\n");
 }
 
-pub fn changed(
+fn changed(
     state: &[u32],
     marks: u64,
     window: &[u32],
@@ -63,6 +63,25 @@ pub fn changed(
         text(b" none");
     }
     text(b"\n");
+}
+
+// All of it, beside what was there before the run.
+pub fn report(
+    kind: u32,
+    answer: [u32; 4],
+    list: &[u32],
+    state: &[u32],
+    marks: u64,
+    window: &[u32],
+    window_marks: &[u8],
+    s: &[u32],
+    m: u64,
+    w: &[u32],
+    v: &[u8],
+) {
+    stop(kind, answer, list, s, m);
+    unknown(m, v);
+    changed(state, marks, window, window_marks, s, m, w, v);
 }
 
 pub fn sheet(state: &[u32], marks: u64) {

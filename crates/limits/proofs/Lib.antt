@@ -1,3 +1,3 @@
 -- The laws of the limits and of the window marks.
 pub mod Limits
-mod Bytes
+pub mod Bytes

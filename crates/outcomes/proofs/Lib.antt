@@ -10,3 +10,4 @@ pub mod More
 pub mod Watches
 pub mod Grants
 pub mod Sheets
+pub mod Replays

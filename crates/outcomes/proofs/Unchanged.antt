@@ -62,7 +62,7 @@ run-unchanged base list st = by (eqb n 0)
     by true p = absurd (omega (arith, run-bounded (meaning base) (near-meaning base) list 0 st .0 .1, p))
     by false p = refl
 
-watch-unchanged : (base : ℕ) (list : List ℕ) (st : State) (μ : Map) → 100 ≤ watchReply base list st μ .report .kind
+pub watch-unchanged : (base : ℕ) (list : List ℕ) (st : State) (μ : Map) → 100 ≤ watchReply base list st μ .report .kind
     → (watchReply base list st μ .leaves ≡ st) × (watchReply base list st μ .map ≡ μ) × (eqb (limitOf base list st μ) 0 ≡ false)
 unfolding watchReply
 watch-unchanged base list st μ = by (eqb n 0)

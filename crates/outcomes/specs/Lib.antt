@@ -7,3 +7,4 @@ pub mod WatchPromise
 pub mod Grant
 pub mod GrantPromise
 pub mod Sheet
+pub mod Replay

@@ -1,7 +1,7 @@
 // A record: 128 words of 32 bits, lowest byte first. differential/oracle/src/bin/record.rs, which writes them, says what each is.
-ghost use mathlib.Core.Path.{_≡_};
-ghost use Prim.Native.Nat.{_+_, _<_, _≤_};
+ghost use Prim.Native.Nat.{_+_, _<_};
 ghost use lib.ListN.{length};
+use records::number::number_at;
 
 pub const CALL: usize = 0;
 
@@ -27,19 +27,9 @@ pub const LEFT: usize = 68;
 
 pub const LEFT_WINDOW: usize = 120;
 
-fn wide(x: u8) -> u32
-    ensures { λ r. ⌜ r < 256 ⌝ }
-{
-    x as u32
-}
-
 // A word of a record.
 pub fn word(b: &[u8; 512], i: usize) -> u32 {
-    let at = i % 128 * 4;
-    wide(b[at])
-        + wide(b[at + 1]) * 0x100
-        + wide(b[at + 2]) * 0x1_0000
-        + wide(b[at + 3]) * 0x100_0000
+    number_at(b, i % 128 * 4)
 }
 
 // Words of a record, from one on.

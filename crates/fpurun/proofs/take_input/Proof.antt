@@ -26,11 +26,11 @@ enum-known-n c = search needs
 array-share-prefix-text : tie.Need-array-share-prefix-text
 array-share-prefix-text c = search needs
 
-slice-aggregate-take-text : tie.Need-slice-aggregate-take-text
-slice-aggregate-take-text c = sym (length-take-le _ _ (search needs))
+slice-aggregate-take-bytes : tie.Need-slice-aggregate-take-bytes
+slice-aggregate-take-bytes c = sym (length-take-le _ _ (search needs))
 
-take-text-requires : tie.Need-take-text-requires
-take-text-requires c κs = search needs
+take-bytes-requires : tie.Need-take-bytes-requires
+take-bytes-requires c κs = search needs
 
 returns : tie.Need-returns
 returns c = search needs
@@ -58,8 +58,8 @@ take-input-spec =
     fail-requires
     enum-known-n
     array-share-prefix-text
-    slice-aggregate-take-text
-    take-text-requires
+    slice-aggregate-take-bytes
+    take-bytes-requires
     returns
     slice-aggregate-too-long
     too-long-requires

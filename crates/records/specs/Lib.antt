@@ -1,0 +1,3 @@
+-- The bytes of a recorded cycle.
+pub mod Number
+pub mod Recorded
