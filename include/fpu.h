@@ -16,7 +16,7 @@ extern "C" {
 
 /* Lengths, in words. */
 #define FPU_STATE_WORDS 52
-#define FPU_ANSWER_WORDS 4
+#define FPU_ANSWER_WORDS 5
 #define FPU_WINDOW_MOST_WORDS 16384
 #define FPU_LIST_MOST_WORDS 4096
 #define FPU_MOST_ROUTINES 8
@@ -41,6 +41,7 @@ extern "C" {
 #define FPU_ANSWER_PLACE 1
 #define FPU_ANSWER_ADDRESS 2
 #define FPU_ANSWER_WORD 3
+#define FPU_ANSWER_KNOWN 4 /* of fpu_watch and fpu_replay, refusals included: how many places are known, the window's among them */
 
 /* Results: kinds. */
 #define FPU_FINISHED 0  /* of a call: nothing to report */
@@ -48,7 +49,7 @@ extern "C" {
 #define FPU_UNDEFINED 2 /* has an address and a word */
 #define FPU_BRANCHED 3
 #define FPU_HANGS 4     /* of the watched run only; has a place */
-#define FPU_REFUSED 100 /* 100 + n for refusal n; everything is as it came (fpu_replay: its window is), and the answer's words, or grants, are 0 */
+#define FPU_REFUSED 100 /* 100 + n for refusal n; everything is as it came (fpu_replay: its window is), and the answer's words but FPU_ANSWER_KNOWN, or grants, are 0 */
 #define FPU_REFUSED_LIST_LONG 101        /* of runs only: more than 4,096 words */
 #define FPU_REFUSED_WINDOW_LONG 102      /* more than 16,384 words */
 #define FPU_REFUSED_BASE_ALIGNMENT 103   /* the base is no multiple of 4 */

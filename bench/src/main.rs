@@ -40,7 +40,7 @@ fn measure(mix: &Mix, rounds: usize) -> Times {
     let words = mix.list.len();
     let mut cpu = Cpu::new();
     let mut t = Times { rust: f64::MAX, run: f64::MAX, watch: f64::MAX };
-    let mut answers = [[0; 4]; 3];
+    let mut answers = [[0; 5]; 3];
     let mut states = [mix.state; 2];
     let mut windows = [window.clone(), window.clone(), window.clone()];
     let mut window_marks = vec![1u8; WINDOW];
@@ -96,7 +96,7 @@ fn call(rounds: usize, mut once: impl FnMut()) -> f64 {
 fn run_once(mix: &Mix, words: usize, window: usize, watched: bool, rounds: usize) -> f64 {
     let mut window = vec![0; window];
     let mut window_marks = vec![1u8; window.len()];
-    let mut answer = [0; 4];
+    let mut answer = [0; 5];
     let list = &mix.list[..words];
     call(rounds, || {
         let mut state = mix.state;
@@ -137,7 +137,7 @@ fn growth(rounds: usize) {
 fn only(number: usize, way: &str, control: u32) {
     let mixes = lists::mixes_under(control);
     let mix = &mixes[number];
-    let (mut window, mut window_marks, mut marks, mut state, mut answer) = (vec![0x3F80_0000; WINDOW], vec![1u8; WINDOW], marks(), mix.state, [0; 4]);
+    let (mut window, mut window_marks, mut marks, mut state, mut answer) = (vec![0x3F80_0000; WINDOW], vec![1u8; WINDOW], marks(), mix.state, [0; 5]);
     match way {
         "rust" => {
             let mut cpu = Cpu::new();

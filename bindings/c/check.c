@@ -77,9 +77,23 @@ static void list(const uint32_t *words, size_t count)
     p.list_words = count;
 }
 
+/* Whether the last call has marks: then the answer says how many places they call known. */
+static int watched;
+
+static uint32_t known(void)
+{
+    uint32_t n = 0;
+    for (int place = 0; watched && place < FPU_STATE_WORDS; place++)
+        n += (p.marks[0] & FPU_MARK(place)) != 0;
+    for (size_t i = 0; watched && i < p.window_marks_bytes; i++)
+        n += p.window_marks[i] == 1;
+    return n;
+}
+
 static uint32_t made(enum call call)
 {
     given = p;
+    watched = call == WATCH;
     switch (call) {
     case DATA_PROCESSING:
         return fpu_data_processing(p.state, p.state_words, p.thumb, p.word, p.answer, p.answer_words);
@@ -103,6 +117,7 @@ static void answer(uint32_t count, uint32_t place, uint32_t address, uint32_t wo
     same("the place", p.answer[FPU_ANSWER_PLACE], place);
     same("the address", p.answer[FPU_ANSWER_ADDRESS], address);
     same("the word", p.answer[FPU_ANSWER_WORD], word);
+    same("the known places", p.answer[FPU_ANSWER_KNOWN], known());
     same("what stands after the answer", p.answer[FPU_ANSWER_WORDS], 0xA5A5A5A5);
 }
 

@@ -128,6 +128,8 @@ static void tried(const char *what, size_t window, size_t marks, size_t state_wo
         expected.state[1 + FPU_PLACE_FPEXC] = 0x40000000;
         expected.marks[1] = 0;
         memset(expected.answer + 1, 0, sizeof *expected.answer * FPU_ANSWER_WORDS);
+        for (size_t i = 0; i < marks; i++)
+            expected.answer[1 + FPU_ANSWER_KNOWN] += expected.window_marks[1 + i] == 1;
     } else {
         static uint32_t list[FPU_LIST_MOST_WORDS];
         size_t s = number(1);

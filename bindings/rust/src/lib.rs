@@ -5,7 +5,7 @@ use std::os::raw::c_uint;
 pub const STATE_WORDS: usize = 52;
 /// the marks of a machine of which every place is known: bit p is that of place p.
 pub const MARKS_ALL: u64 = (1 << STATE_WORDS) - 1;
-pub const ANSWER_WORDS: usize = 4;
+pub const ANSWER_WORDS: usize = 5;
 /// the bytes of a register sheet: 16 lines of 40 characters and a line feed.
 pub const SHEET_BYTES: usize = 656;
 
@@ -236,6 +236,8 @@ pub enum Stop {
 pub struct Ran {
     pub stop: Stop,
     pub count: u32,
+    /// after a watched run or a replay, a refused one too, how many places are known, the window's among them; else 0.
+    pub known: u32,
 }
 
 /// A state with a bit outside a place's own, or a mark that is neither 0 nor 1: nothing was done.
@@ -277,7 +279,7 @@ fn ran(kind: u32, answer: [u32; ANSWER_WORDS]) -> Result<Ran, InvalidArgument> {
         255 => return Err(InvalidArgument),
         _ => unreachable!("kind {kind}"),
     };
-    Ok(Ran { stop, count: answer[0] })
+    Ok(Ran { stop, count: answer[0], known: answer[4] })
 }
 
 impl Machine {

@@ -57,17 +57,17 @@ fn a_load_a_store_and_refusals() {
 
 #[test]
 fn what_255_touches() {
-    let (mut state, mut answer, mut window) = ([1u32; 53], [9u32; 5], [3u32; 2]);
+    let (mut state, mut answer, mut window) = ([1u32; 53], [9u32; 6], [3u32; 2]);
     for words in [48, 49, 51] {
         state[words] = 0;
     }
     let kept = state;
     assert_eq!(raw::new(&mut state[..51]), 255);
-    assert_eq!(raw::data_processing(&mut state[..53], 0, 0xEE30_0A81, &mut answer[..4]), 255);
-    assert_eq!(raw::data_processing(&mut state[..52], 2, 0xEE30_0A81, &mut answer[..4]), 255);
-    assert_eq!(raw::coprocessor_register(&mut state[..52], 0, 0xEE10_FA90, &mut answer[..3]), 255);
+    assert_eq!(raw::data_processing(&mut state[..53], 0, 0xEE30_0A81, &mut answer[..5]), 255);
+    assert_eq!(raw::data_processing(&mut state[..52], 2, 0xEE30_0A81, &mut answer[..5]), 255);
+    assert_eq!(raw::coprocessor_register(&mut state[..52], 0, 0xEE10_FA90, &mut answer[..4]), 255);
     assert_eq!(raw::coprocessor_load_store(&mut state[..52], &mut window, 1, 0, 0xED90_0A00, &mut answer), 255);
-    assert_eq!((state, answer, window), (kept, [9; 5], [3; 2]));
+    assert_eq!((state, answer, window), (kept, [9; 6], [3; 2]));
     for (place, bit) in [(48, 0x0800_0000), (49, 0x1000_0000), (51, 1)] {
         let mut m = Machine::new();
         m.state[place] |= bit;
@@ -76,9 +76,9 @@ fn what_255_touches() {
         assert_eq!(m, before);
     }
     state[52] = 0;
-    answer = [9; 5];
-    assert_eq!(raw::data_processing(&mut state[..52], 0, 0xEE30_0A81, &mut answer[..4]), 0);
-    assert_eq!(answer, [0, 0, 0, 0, 9]);
+    answer = [9; 6];
+    assert_eq!(raw::data_processing(&mut state[..52], 0, 0xEE30_0A81, &mut answer[..5]), 0);
+    assert_eq!(answer, [0, 0, 0, 0, 0, 9]);
 }
 
 #[test]
@@ -112,14 +112,14 @@ const LIST: [u32; 4] = [0xEE30_0A00, 0xEEB5_0A40, 0xEEF1_FA10, 0x0E30_0A00];
 #[test]
 fn a_run() {
     let mut m = Machine::new();
-    assert_eq!(m.run(&mut [], 0, &LIST), Ok(Ran { stop: Stop::Finished, count: 4 }));
+    assert_eq!(m.run(&mut [], 0, &LIST), Ok(Ran { stop: Stop::Finished, count: 4, known: 0 }));
     assert_eq!((m.state[47], m.state[51]), (16, 0x6000_0000));
     let before = m;
-    assert_eq!(m.run(&mut [], 0, &[LIST[0], 0xE3A0_0000]), Ok(Ran { stop: Stop::Foreign, count: 1 }));
+    assert_eq!(m.run(&mut [], 0, &[LIST[0], 0xE3A0_0000]), Ok(Ran { stop: Stop::Foreign, count: 1, known: 0 }));
     m = before;
-    assert_eq!(m.run(&mut [], 1, &vec![LIST[0]; 4097]), Ok(Ran { stop: Stop::Refused(1), count: 0 }));
+    assert_eq!(m.run(&mut [], 1, &vec![LIST[0]; 4097]), Ok(Ran { stop: Stop::Refused(1), count: 0, known: 0 }));
     m.thumb = true;
-    assert_eq!(m.run(&mut [], 0, &LIST), Ok(Ran { stop: Stop::Refused(5), count: 0 }));
+    assert_eq!(m.run(&mut [], 0, &LIST), Ok(Ran { stop: Stop::Refused(5), count: 0, known: 0 }));
     assert_eq!(m.state, before.state);
 }
 
@@ -127,13 +127,13 @@ fn a_run() {
 fn a_watched_run() {
     let mut m = Machine::new();
     let mut marks = MARKS_ALL - 1 + (0xFFF << 52);
-    assert_eq!(m.watch(&mut marks, &mut [], &mut [], 0, &LIST), Ok(Ran { stop: Stop::Hangs(51), count: 3 }));
+    assert_eq!(m.watch(&mut marks, &mut [], &mut [], 0, &LIST), Ok(Ran { stop: Stop::Hangs(51), count: 3, known: 49 }));
     assert_eq!(marks, MARKS_ALL & !(1 | 1 << 48 | 1 << 51));
 
     marks |= 0xA5B << 52;
     let (before, kept) = (m, marks);
-    assert_eq!(m.watch(&mut marks, &mut [5], &mut [], 0, &LIST), Ok(Ran { stop: Stop::Refused(6), count: 0 }));
-    assert_eq!(m.watch(&mut marks, &mut [5], &mut [2], 0, &LIST), Ok(Ran { stop: Stop::Refused(7), count: 0 }));
+    assert_eq!(m.watch(&mut marks, &mut [5], &mut [], 0, &LIST), Ok(Ran { stop: Stop::Refused(6), count: 0, known: 49 }));
+    assert_eq!(m.watch(&mut marks, &mut [5], &mut [2], 0, &LIST), Ok(Ran { stop: Stop::Refused(7), count: 0, known: 49 }));
     assert_eq!((m, marks), (before, kept));
 }
 
@@ -217,6 +217,6 @@ fn a_record() {
     assert_eq!((left, known, w, v), (m, marks, window, window_marks));
     assert_eq!((known & 1, v), (0, [1, 0, 1]));
     let (left, known, ran) = replay(&bytes[1..], &mut w, &mut v);
-    assert_eq!((left, known, ran), (Machine::new(), 0, Ran { stop: Stop::Refused(9), count: 0 }));
+    assert_eq!((left, known, ran), (Machine::new(), 0, Ran { stop: Stop::Refused(9), count: 0, known: 2 }));
     assert_eq!((w, v), (window, window_marks));
 }

@@ -17,6 +17,7 @@ ghost use Rattle.meaning.specs.Hang.{marked};
 ghost use Rattle.addresses.specs.Address.{formatOf, countOf};
 ghost use Rattle.memory.specs.LoadStore.{accessAt, accessTree, loadStoreTree};
 ghost use Rattle.place_marks.specs.Word.{mapIn};
+ghost use Rattle.limits.specs.Marks.{onesOf};
 use addresses::address::first_word;
 use addresses::address::one_only;
 use addresses::address::start_of;
@@ -25,23 +26,26 @@ use addresses::address::write_back;
 use bits::field::bits;
 use pairs::pair::move_pair;
 
-// The base register's value says which window words move. A write-back changes no mark.
+// The base register's value says which window words move. A write-back changes no mark. The number of ones among the window's marks is kept.
 pub fn watched_load_store(
     s: &mut [u32; 32],
     r: &mut [u32; 16],
     window: &mut [u32],
     marks: u64,
     window_marks: &mut [u8],
+    ones: &mut usize,
     base: u32,
     op: u32,
 ) -> u64
-    ensures { λ y. ⌜ ((q : Machine) → out (state (withS (withR q (now (r .exit))) (now (s .exit))) (now (window .exit))) on ≡ plain (loadStoreTree base op) (state (withS (withR q (now (r .entry))) (now (s .entry))) (now (window .entry)))) × ((q : Machine) (v : List ℕ) → mapIn y (now («window_marks» .exit)) ≡ marked (loadStoreTree base op) (state (withR q (now (r .entry))) v) (mapIn marks (now («window_marks» .entry)))) ⌝ }
+    requires { ⌜ now ones ≡ onesOf (now «window_marks») ⌝ }
+    ensures { λ y. ⌜ ((q : Machine) → out (state (withS (withR q (now (r .exit))) (now (s .exit))) (now (window .exit))) on ≡ plain (loadStoreTree base op) (state (withS (withR q (now (r .entry))) (now (s .entry))) (now (window .entry)))) × ((q : Machine) (v : List ℕ) → mapIn y (now («window_marks» .exit)) ≡ marked (loadStoreTree base op) (state (withR q (now (r .entry))) v) (mapIn marks (now («window_marks» .entry)))) × (now (ones .exit) ≡ onesOf (now («window_marks» .exit))) ⌝ }
 {
     let coproc = bits(op, 8, 11);
     if (coproc != 10) & (coproc != 11) {
         return marks;
     }
-    watched_access(s, r, window, marks, window_marks, base, op, coproc == 11)
+    let double = coproc == 11;
+    watched_access(s, r, window, marks, window_marks, ones, base, op, double)
 }
 
 // In either precision.
@@ -51,11 +55,13 @@ fn watched_access(
     window: &mut [u32],
     marks: u64,
     window_marks: &mut [u8],
+    ones: &mut usize,
     base: u32,
     op: u32,
     double: bool,
 ) -> u64
-    ensures { λ y. ⌜ ((q : Machine) → out (state (withS (withR q (now (r .exit))) (now (s .exit))) (now (window .exit))) on ≡ plain (accessTree (formatOf double) base op) (state (withS (withR q (now (r .entry))) (now (s .entry))) (now (window .entry)))) × ((q : Machine) (v : List ℕ) → mapIn y (now («window_marks» .exit)) ≡ marked (accessTree (formatOf double) base op) (state (withR q (now (r .entry))) v) (mapIn marks (now («window_marks» .entry)))) ⌝ }
+    requires { ⌜ now ones ≡ onesOf (now «window_marks») ⌝ }
+    ensures { λ y. ⌜ ((q : Machine) → out (state (withS (withR q (now (r .exit))) (now (s .exit))) (now (window .exit))) on ≡ plain (accessTree (formatOf double) base op) (state (withS (withR q (now (r .entry))) (now (s .entry))) (now (window .entry)))) × ((q : Machine) (v : List ℕ) → mapIn y (now («window_marks» .exit)) ≡ marked (accessTree (formatOf double) base op) (state (withR q (now (r .entry))) v) (mapIn marks (now («window_marks» .entry)))) × (now (ones .exit) ≡ onesOf (now («window_marks» .exit))) ⌝ }
 {
     if bits(op, 21, 27) == 0b110_0010 {
         let y = pair::mark_pair(marks, op, double);
@@ -66,11 +72,31 @@ fn watched_access(
     // VLDR and VSTR need neither a loop nor a write-back.
     if one_only(op) {
         let start = start_of(op, r[rn]);
-        return one::watched_one(s, window, marks, window_marks, base, op, double, start);
+        return one::watched_one(
+            s,
+            window,
+            marks,
+            window_marks,
+            ones,
+            base,
+            op,
+            double,
+            start,
+        );
     }
     let start = start_of(op, r[rn]);
     write_back(r, op);
-    watched_transfer(s, window, marks, window_marks, base, op, double, start)
+    watched_transfer(
+        s,
+        window,
+        marks,
+        window_marks,
+        ones,
+        base,
+        op,
+        double,
+        start,
+    )
 }
 
 // The registers of the transfer in turn, from an address on: their words in turn.
@@ -79,12 +105,14 @@ fn watched_transfer(
     window: &mut [u32],
     marks: u64,
     window_marks: &mut [u8],
+    ones: &mut usize,
     base: u32,
     op: u32,
     double: bool,
     start: u32,
 ) -> u64
-    ensures { λ y. ⌜ ((q : Machine) → state (withS q (now (s .exit))) (now (window .exit)) ≡ after (countOf (formatOf double) op) (accessAt (formatOf double) (bitOf op 20) base (regOf (formatOf double) (field op 12 15) (field op 22 22)) start) (state (withS q (now (s .entry))) (now (window .entry)))) × (mapIn y (now («window_marks» .exit)) ≡ afterMarks (countOf (formatOf double) op) (accessAt (formatOf double) (bitOf op 20) base (regOf (formatOf double) (field op 12 15) (field op 22 22)) start) (mapIn marks (now («window_marks» .entry)))) ⌝ }
+    requires { ⌜ now ones ≡ onesOf (now «window_marks») ⌝ }
+    ensures { λ y. ⌜ ((q : Machine) → state (withS q (now (s .exit))) (now (window .exit)) ≡ after (countOf (formatOf double) op) (accessAt (formatOf double) (bitOf op 20) base (regOf (formatOf double) (field op 12 15) (field op 22 22)) start) (state (withS q (now (s .entry))) (now (window .entry)))) × (mapIn y (now («window_marks» .exit)) ≡ afterMarks (countOf (formatOf double) op) (accessAt (formatOf double) (bitOf op 20) base (regOf (formatOf double) (field op 12 15) (field op 22 22)) start) (mapIn marks (now («window_marks» .entry)))) × (now (ones .exit) ≡ onesOf (now («window_marks» .exit))) ⌝ }
 {
     let first = first_word(op, double);
     let count = word_count(op, double);
@@ -93,6 +121,7 @@ fn watched_transfer(
         window,
         marks,
         window_marks,
+        ones,
         base,
         op,
         start,

@@ -12,8 +12,10 @@ ghost use Rattle.meaning.specs.Step.{after, afterMarks};
 ghost use Rattle.addresses.specs.Contiguous.{Contiguous};
 ghost use Rattle.memory.specs.LoadStore.{accessAt};
 ghost use Rattle.place_marks.specs.Word.{mapIn};
+ghost use Rattle.limits.specs.Marks.{onesOf};
 use addresses::contiguous::is_contiguous;
 use bits::field::bit;
+use known_places::ones_after;
 use machine::address::plus;
 use machine::registers::Single;
 use machine::window::word_at;
@@ -27,30 +29,31 @@ use place_marks::window::byte_of;
 use place_marks::window::mark_word;
 use place_marks::window::word_known;
 
-// The words and their marks, by bit 20 of the word loaded or stored.
+// The words and their marks, by bit 20 of the word loaded or stored. Only a store moves the number of ones among the window's marks.
 pub(crate) fn watched_words(
     s: &mut [u32; 32],
     window: &mut [u32],
     marks: u64,
     window_marks: &mut [u8],
+    ones: &mut usize,
     base: u32,
     op: u32,
     start: u32,
     first: Single,
     count: u32,
 ) -> u64
-    requires { ⌜ (first .0 < 32) × (count ≤ 510) ⌝ }
-    ensures { λ y. ⌜ ((q : Machine) → state (withS q (now (s .exit))) (now (window .exit)) ≡ after count (accessAt binary32 (bitOf op 20) base (first .0) start) (state (withS q (now (s .entry))) (now (window .entry)))) × (mapIn y (now («window_marks» .exit)) ≡ afterMarks count (accessAt binary32 (bitOf op 20) base (first .0) start) (mapIn marks (now («window_marks» .entry)))) ⌝ }
+    requires { ⌜ (first .0 < 32) × (count ≤ 510) × (now ones ≡ onesOf (now «window_marks»)) ⌝ }
+    ensures { λ y. ⌜ ((q : Machine) → state (withS q (now (s .exit))) (now (window .exit)) ≡ after count (accessAt binary32 (bitOf op 20) base (first .0) start) (state (withS q (now (s .entry))) (now (window .entry)))) × (mapIn y (now («window_marks» .exit)) ≡ afterMarks count (accessAt binary32 (bitOf op 20) base (first .0) start) (mapIn marks (now («window_marks» .entry)))) × (now (ones .exit) ≡ onesOf (now («window_marks» .exit))) ⌝ }
 {
     // As in the plain run: nearly every transfer is contiguous. Each word of a window has a mark.
     if (window.len() == window_marks.len())
         & is_contiguous(window.len(), base, start, first, count)
     {
-        let y = mark_block(marks, window_marks, base, op, start, first, count);
+        let y = mark_block(marks, window_marks, ones, base, op, start, first, count);
         move_block(s, window, base, op, start, first, count);
         return y;
     }
-    let y = mark_each(marks, window_marks, base, op, start, first, count);
+    let y = mark_each(marks, window_marks, ones, base, op, start, first, count);
     move_each(s, window, base, op, start, first, count);
     y
 }
@@ -59,19 +62,20 @@ pub(crate) fn watched_words(
 fn mark_block(
     marks: u64,
     window_marks: &mut [u8],
+    ones: &mut usize,
     base: u32,
     op: u32,
     start: u32,
     first: Single,
     count: u32,
 ) -> u64
-    requires { ⌜ Contiguous (length (now «window_marks»)) base start (first .0) count ⌝ }
-    ensures { λ y. ⌜ mapIn y (now («window_marks» .exit)) ≡ afterMarks count (accessAt binary32 (bitOf op 20) base (first .0) start) (mapIn marks (now («window_marks» .entry))) ⌝ }
+    requires { ⌜ (Contiguous (length (now «window_marks»)) base start (first .0) count) × (now ones ≡ onesOf (now «window_marks»)) ⌝ }
+    ensures { λ y. ⌜ (mapIn y (now («window_marks» .exit)) ≡ afterMarks count (accessAt binary32 (bitOf op 20) base (first .0) start) (mapIn marks (now («window_marks» .entry)))) × (now (ones .exit) ≡ onesOf (now («window_marks» .exit))) ⌝ }
 {
     if bit(op, 20) {
         return mark_block_load(marks, &window_marks[..], base, start, first, count);
     }
-    mark_block_store(marks, window_marks, base, start, first, count);
+    *ones = mark_block_store(marks, window_marks, *ones, base, start, first, count);
     marks
 }
 
@@ -79,19 +83,20 @@ fn mark_block(
 fn mark_each(
     marks: u64,
     window_marks: &mut [u8],
+    ones: &mut usize,
     base: u32,
     op: u32,
     start: u32,
     first: Single,
     count: u32,
 ) -> u64
-    requires { ⌜ (first .0 < 32) × (count ≤ 510) ⌝ }
-    ensures { λ y. ⌜ mapIn y (now («window_marks» .exit)) ≡ afterMarks count (accessAt binary32 (bitOf op 20) base (first .0) start) (mapIn marks (now («window_marks» .entry))) ⌝ }
+    requires { ⌜ (first .0 < 32) × (count ≤ 510) × (now ones ≡ onesOf (now «window_marks»)) ⌝ }
+    ensures { λ y. ⌜ (mapIn y (now («window_marks» .exit)) ≡ afterMarks count (accessAt binary32 (bitOf op 20) base (first .0) start) (mapIn marks (now («window_marks» .entry)))) × (now (ones .exit) ≡ onesOf (now («window_marks» .exit))) ⌝ }
 {
     if bit(op, 20) {
         return mark_loads(marks, &window_marks[..], base, start, first, count);
     }
-    mark_stores(marks, window_marks, base, start, first, count);
+    *ones = mark_stores(marks, window_marks, *ones, base, start, first, count);
     marks
 }
 
@@ -118,19 +123,25 @@ fn mark_block_load(
 fn mark_block_store(
     marks: u64,
     window_marks: &mut [u8],
+    ones: usize,
     base: u32,
     start: u32,
     first: Single,
     count: u32,
-)
-    requires { ⌜ Contiguous (length (now «window_marks»)) base start (first .0) count ⌝ }
-    ensures { λ _. ⌜ mapIn marks (now («window_marks» .exit)) ≡ afterMarks count (accessAt binary32 false base (first .0) start) (mapIn marks (now («window_marks» .entry))) ⌝ }
+) -> usize
+    requires { ⌜ (Contiguous (length (now «window_marks»)) base start (first .0) count) × (ones ≡ onesOf (now «window_marks»)) ⌝ }
+    ensures { λ y. ⌜ (mapIn marks (now («window_marks» .exit)) ≡ afterMarks count (accessAt binary32 false base (first .0) start) (mapIn marks (now («window_marks» .entry)))) × (y ≡ onesOf (now («window_marks» .exit))) ⌝ }
 {
     let at = word_at(base, start);
     let n = count as usize;
+    // 32 more than the ones that came less those that went: a byte, so that the compiler can take several marks at a time.
+    let mut y: u8 = 32;
     for i in 0..n {
-        window_marks[at + i] = byte_of(is_known(marks, first.0 + i));
+        let b = byte_of(is_known(marks, first.0 + i));
+        y = y + b - byte_of(window_marks[at + i] == 1);
+        window_marks[at + i] = b;
     }
+    ones + y as usize - 32
 }
 
 fn mark_loads(
@@ -155,16 +166,21 @@ fn mark_loads(
 fn mark_stores(
     marks: u64,
     window_marks: &mut [u8],
+    ones: usize,
     base: u32,
     start: u32,
     first: Single,
     count: u32,
-)
-    requires { ⌜ (first .0 < 32) × (count ≤ 510) ⌝ }
-    ensures { λ _. ⌜ mapIn marks (now («window_marks» .exit)) ≡ afterMarks count (accessAt binary32 false base (first .0) start) (mapIn marks (now («window_marks» .entry))) ⌝ }
+) -> usize
+    requires { ⌜ (first .0 < 32) × (count ≤ 510) × (ones ≡ onesOf (now «window_marks»)) ⌝ }
+    ensures { λ y. ⌜ (mapIn marks (now («window_marks» .exit)) ≡ afterMarks count (accessAt binary32 false base (first .0) start) (mapIn marks (now («window_marks» .entry)))) × (y ≡ onesOf (now («window_marks» .exit))) ⌝ }
 {
+    let mut y = ones;
     for i in 0..count {
         let b = single_known(marks, Single(first.0 + i as usize));
-        mark_word(window_marks, base, plus(start, 4 * i), b);
+        let address = plus(start, 4 * i);
+        y = ones_after(&window_marks[..], y, base, address, b);
+        mark_word(window_marks, base, address, b);
     }
+    y
 }

@@ -1,3 +1,3 @@
--- The four words one by one, and that the values of a run fit in them.
+-- The five words one by one, and that the values of a run fit in them.
 pub mod Answer
 pub mod Bounds

@@ -35,7 +35,7 @@ fn is_valid_call(state: &[u32], thumb: u32, words: usize) -> bool
     if 1 < thumb {
         return false;
     }
-    if words != 4 {
+    if words != 5 {
         return false;
     }
     is_valid(state)
@@ -135,7 +135,7 @@ pub extern "C" fn fpu_run(
     let stop = done.stop;
     let count = done.count;
     encode(done.machine, state);
-    report_stop(stop, count, answer)
+    report_stop(stop, count, 0, answer)
 }
 
 // The watched run of a list of words. The marks are one word, bit p for place p.
@@ -159,9 +159,10 @@ pub extern "C" fn fpu_watch(
     let done = watch::watch(machine, *marks, window, window_marks, base, list);
     let stop = done.stop;
     let count = done.count;
+    let known = done.known;
     *marks = done.marks;
     encode(done.machine, state);
-    report_stop(stop, count, answer)
+    report_stop(stop, count, known, answer)
 }
 
 // Whether an instruction of a condition, in its low four bits, is executed under the flags of place 51.

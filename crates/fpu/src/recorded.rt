@@ -14,7 +14,7 @@ fn is_valid_replay(words: usize, answers: usize) -> bool
     if words != WINDOW {
         return false;
     }
-    answers == 4
+    answers == 5
 }
 
 // Runs what a record holds under the watch. The state and the marks are written only; the record's window is laid into the two buffers, which a
@@ -36,7 +36,8 @@ pub extern "C" fn fpu_replay(
     let done = replay::replay(bytes, window, window_marks);
     let stop = done.stop;
     let count = done.count;
+    let known = done.known;
     *marks = done.marks;
     encode(done.machine, state);
-    report_stop(stop, count, answer)
+    report_stop(stop, count, known, answer)
 }

@@ -174,7 +174,7 @@ fn run_parts(
     window_marks: &[u8],
     mode: Mode,
 ) {
-    let mut answer = [0u32; 4];
+    let mut answer = [0u32; 5];
     let kind = fpu::fpu_watch(s, m, w, v, base, 0, list, &mut answer);
     let after = *m;
     outcome::report(

@@ -14,13 +14,16 @@ fn text(b: &[u8]) {
     io::write_all(STDOUT_FILENO, b);
 }
 
-// The stop of a run by the number of its kind, with the count, the place, the address and the word of its answer.
-fn stop(kind: u32, answer: [u32; 4], list: &[u32], state: &[u32], marks: u64) {
+// The stop of a run by the number of its kind, with the count, the place, the address, the word and the known places of its answer.
+fn stop(kind: u32, answer: [u32; 5], list: &[u32], state: &[u32], marks: u64, places: usize) {
     let count = answer[0] as usize;
+    let known = answer[4] as usize;
     print(line::stop(kind, count, answer[1], answer[2], list, state, marks));
     text(b"\n");
     words::operation(kind, count, list);
     print(line::ran(count, list.len()));
+    text(b"\n");
+    print(line::known(known, places));
     text(b"\n");
 }
 
@@ -68,7 +71,7 @@ fn changed(
 // All of it, beside what was there before the run.
 pub fn report(
     kind: u32,
-    answer: [u32; 4],
+    answer: [u32; 5],
     list: &[u32],
     state: &[u32],
     marks: u64,
@@ -79,7 +82,7 @@ pub fn report(
     w: &[u32],
     v: &[u8],
 ) {
-    stop(kind, answer, list, s, m);
+    stop(kind, answer, list, s, m, w.len() + WINDOW);
     unknown(m, v);
     changed(state, marks, window, window_marks, s, m, w, v);
 }

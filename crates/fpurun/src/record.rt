@@ -48,7 +48,7 @@ pub fn replay(bytes: &[u8]) {
 fn replay_in(bytes: &[u8], w: &mut [u32], v: &mut [u8]) {
     let mut s = [0u32; WINDOW];
     let mut m: u64 = 0;
-    let mut answer = [0u32; 4];
+    let mut answer = [0u32; 5];
     let kind = fpu::recorded::fpu_replay(bytes, &mut s, &mut m, w, v, &mut answer);
     if 100 <= kind {
         refused(kind);
@@ -58,7 +58,7 @@ fn replay_in(bytes: &[u8], w: &mut [u32], v: &mut [u8]) {
 }
 
 // Tells what came of the run beside what the record holds.
-fn tell(kind: u32, answer: [u32; 4], bytes: &[u8], s: &[u32], m: u64, w: &[u32], v: &[u8]) {
+fn tell(kind: u32, answer: [u32; 5], bytes: &[u8], s: &[u32], m: u64, w: &[u32], v: &[u8]) {
     let words = w.len();
     if MOST < words {
         return;
@@ -92,7 +92,7 @@ fn tell(kind: u32, answer: [u32; 4], bytes: &[u8], s: &[u32], m: u64, w: &[u32],
 // The words and marks of a state and a window, and a list, are filled with what the record holds. One that was not refused passes the tests.
 fn tell_parts(
     kind: u32,
-    answer: [u32; 4],
+    answer: [u32; 5],
     bytes: &[u8],
     state: &mut [u32],
     window: &mut [u32],

@@ -1,7 +1,8 @@
 // The refusals: of a window, of a plain run, of a watched run.
 ghost use mathlib.Core.Path.{_≡_};
 ghost use Rattle.limits.specs.Limit.{windowLimit, runLimit, watchLimit};
-use super::marks::bits_only;
+ghost use Rattle.limits.specs.Marks.{onesOf};
+use super::marks::count_bits;
 
 // The first of refusals 2, 3 and 4 that applies to a window of so many words, or 0.
 pub fn window_limit(base: u32, words: usize) -> u8
@@ -36,19 +37,28 @@ pub fn run_limit(list: usize, base: u32, words: usize, thumb: bool) -> u8
     0
 }
 
-// The first of refusals 1 to 7 that applies, or 0.
-pub fn watch_limit(list: usize, base: u32, words: usize, thumb: bool, marks: &[u8]) -> u8
-    ensures { λ n. ⌜ n ≡ watchLimit list base words thumb (now (marks .entry)) ⌝ }
+// The first of refusals 1 to 7 that applies, or 0, and then how many marks are 1.
+pub struct Limit {
+    pub number: u8,
+    pub ones: usize,
+}
+
+pub fn watch_limit(list: usize, base: u32, words: usize, thumb: bool, marks: &[u8]) -> Limit
+    ensures { λ n. ⌜ (n .number ≡ watchLimit list base words thumb (now (marks .entry))) × (n .number ≡ 0 → n .ones ≡ onesOf (now (marks .entry))) ⌝ }
 {
-    let limit = run_limit(list, base, words, thumb);
-    if limit != 0 {
-        return limit;
+    let number = run_limit(list, base, words, thumb);
+    if number != 0 {
+        return Limit { number, ones: 0 };
     }
     if marks.len() != words {
-        return 6;
+        return Limit { number: 6, ones: 0 };
     }
-    if bits_only(marks) {
-        return 0;
+    let counted = count_bits(marks);
+    if counted.bits {
+        return Limit {
+            number: 0,
+            ones: counted.ones,
+        };
     }
-    7
+    Limit { number: 7, ones: 0 }
 }

@@ -23,11 +23,11 @@ module _ (l : List ℕ) (thumb n : ℕ) (b : Bool) (u : b ≡ validCall l thumb 
 
   pub valid-call-state : Valid l
   unfolding validCall
-  valid-call-state = valid-facts l (snd (eqb n 4) _ (snd (ltb thumb 2) _ so))
+  valid-call-state = valid-facts l (snd (eqb n 5) _ (snd (ltb thumb 2) _ so))
 
-  pub valid-call-answer : n ≡ 4
+  pub valid-call-answer : n ≡ 5
   unfolding validCall
-  valid-call-answer = eqb-true n 4 (fst (eqb n 4) _ (snd (ltb thumb 2) _ so))
+  valid-call-answer = eqb-true n 5 (fst (eqb n 5) _ (snd (ltb thumb 2) _ so))
 
 thumb-of-decode : (t : Bool) (l : List ℕ) (m : Machine) → m ≡ decode t l → m .thumb ≡ t
 unfolding decode
@@ -39,7 +39,7 @@ module _ (y : Bool → State → Reply) (l w a : List ℕ) (thumb : ℕ) (b : Bo
   not-called e = rw (← u, not-true b e)
 
   pub has-called : (m : Machine) (x : Answer) (r : ℕ) (l′ w′ a′ : List ℕ) → not b ≡ false → m ≡ decode (eqb thumb 1) l → answered x w′ ≡ y (m .thumb) (state m w)
-      → l′ ≡ encode (x .machine) → (r ≡ exitReport (x .exit) .kind) × (a′ ≡ answerOf 0 (exitReport (x .exit)))
+      → l′ ≡ encode (x .machine) → (r ≡ exitReport (x .exit) .kind) × (a′ ≡ answerOf 0 (exitReport (x .exit)) 0)
       → outcome r l′ w′ a′ ≡ called (y (eqb thumb 1)) l w thumb a
   has-called m x r l′ w′ a′ e em ey el et = rw (← u, not-false b e, ← spoken, el, et .0, et .1)
     where

@@ -74,7 +74,7 @@ reported-alike : (k k′ : ℕ) (x y : Reply) → k ≡ k′ → x .report ≡ y
 reported-alike k k′ x y ek er ec em zx zy b f g =
     record {
       result = ap (λ (p : Report). p .kind) er;
-      answer = rw (er, ec);
+      answer = rw (er, ec, em);
       marks = ek;
       windowMarks = ap (λ (μ : Map). μ .words) em;
       words = encoded-same (x .map) k (x .leaves .machine) (y .leaves .machine) (x .leaves .window) (y .leaves .window) zx zy b f;

@@ -13,5 +13,5 @@ use Rattle.layout.proofs.Words.{encode-decode}
 use Rattle.outcomes.specs.Outcome.{outcome, called, validCall}
 
 pub refused-as-it-came : (base w thumb : ℕ) (l v a : List ℕ) → Valid l → getD l 51 0 < 2 ^ 32 → validCall l thumb (length a) ≡ true → (windowLimit base (length v) ≡ 0 → ⊥)
-    → called (loadStoreReply base w) l v thumb a ≡ outcome (100 + windowLimit base (length v)) l v (0 ∷ 0 ∷ 0 ∷ 0 ∷ [])
+    → called (loadStoreReply base w) l v thumb a ≡ outcome (100 + windowLimit base (length v)) l v (0 ∷ 0 ∷ 0 ∷ 0 ∷ 0 ∷ [])
 refused-as-it-came base w thumb l v a s h u n = rw (u, ne-eqb _ _ n, encode-decode (eqb thumb 1) l s h)

@@ -22,6 +22,7 @@ use Rattle.records.specs.Recorded.{ofBytes, wordOfMarks}
 use Rattle.replay.specs.Replay.{stateIn, mapOf, wellFormed, refusalOf, replayReply}
 use Rattle.replay.specs.Promise.{ReplayPromise}
 use Rattle.replay.proofs.Refusing.{accepted}
+use Rattle.known_places.specs.Count.{knownPlaces}
 use Rattle.answer.specs.Answer.{answerOf}
 use Rattle.answer.proofs.Bounds.{Fits, watch-fits}
 use Rattle.outcomes.specs.Outcome.{invalidArgument, validCall}
@@ -103,18 +104,18 @@ module _ (b l : List ℕ) (m : ℕ) (w v a : List ℕ) (t : Bool) (u : t ≡ val
 
   pub state-words : not t ≡ false → length l ≡ before
   unfolding validReplay
-  state-words e = eqb-true (length l) before (fst (eqb (length l) before) (eqb (length a) 4) (sym u ∙ not-false t e))
+  state-words e = eqb-true (length l) before (fst (eqb (length l) before) (eqb (length a) 5) (sym u ∙ not-false t e))
 
-  pub answer-words : not t ≡ false → length a ≡ 4
+  pub answer-words : not t ≡ false → length a ≡ 5
   unfolding validReplay
-  answer-words e = eqb-true (length a) 4 (snd (eqb (length l) before) (eqb (length a) 4) (sym u ∙ not-false t e))
+  answer-words e = eqb-true (length a) 5 (snd (eqb (length l) before) (eqb (length a) 5) (sym u ∙ not-false t e))
 
-  module _ (x : Watched) (r : ℕ) (l′ w′ v′ a′ : List ℕ) (e : not t ≡ false) (p : ReplayPromise b w v (answered x w′ v′) (x .marks)) (el : l′ ≡ encode (x .machine))
-      (et : (r ≡ report (stopOf (x .stop)) .kind) × (a′ ≡ answerOf (x .count) (report (stopOf (x .stop)))))
+  module _ (x : Watched) (r : ℕ) (l′ w′ v′ a′ : List ℕ) (e : not t ≡ false) (p : ReplayPromise b w v (answered x w′ v′) (x .marks)) (ek : x .known ≡ knownPlaces (mapIn (x .marks) v′)) (el : l′ ≡ encode (x .machine))
+      (et : (r ≡ report (stopOf (x .stop)) .kind) × (a′ ≡ answerOf (x .count) (report (stopOf (x .stop))) (x .known)))
     where
       same : watchOutcome r l′ (x .marks) w′ v′ a′ ≡ replayed b l m w v a
       unfolding mapIn
-      same = rw (← u, not-false t e, ← p .answer, ← p .word, el, et .0, et .1)
+      same = rw (← u, not-false t e, ← p .answer, ← p .word, el, et .0, et .1, ek)
 
       module _ (z : refusalOf b (length w) (length v) ≡ 0) where
         formed : validCall (take before (ofBytes b .values)) 0 (length a) ≡ true
@@ -125,7 +126,7 @@ module _ (b l : List ℕ) (m : ℕ) (w v a : List ℕ) (t : Bool) (u : t ≡ val
         ran : WatchedRecord (ofBytes b) a (watchOutcome r l′ (x .marks) w′ v′ a′)
         ran =
             has-watched (ofBytes b .base) (ofBytes b .list) (take before (ofBytes b .values)) (wordOfMarks (take before (ofBytes b .marks))) (drop before (ofBytes b .values)) (drop before (ofBytes b .marks)) 0 a
-            true (sym formed) (decode false (take before (ofBytes b .values))) x r l′ w′ v′ a′ refl refl (p .watched z .0) (p .watched z .1) el et
+            true (sym formed) (decode false (take before (ofBytes b .values))) x r l′ w′ v′ a′ refl refl (p .watched z .0) (p .watched z .1) ek el et
 
       pub has-replayed : ReplayedPromise b l m w v a (watchOutcome r l′ (x .marks) w′ v′ a′)
       has-replayed = promised b l m w v a _ same (λ _. ran)

@@ -21,7 +21,7 @@ module _ (y : State → Reply) (l w a : List ℕ) (thumb : ℕ) (b : Bool) (u : 
   not-run e = rw (← u, not-true b e)
 
   pub has-run : (m : Machine) (x : Ran) (r : ℕ) (l′ w′ a′ : List ℕ) → not b ≡ false → m ≡ decode (eqb thumb 1) l → answered x w′ ≡ y (state m w)
-      → l′ ≡ encode (x .machine) → (r ≡ report (stopOf (x .stop)) .kind) × (a′ ≡ answerOf (x .count) (report (stopOf (x .stop))))
+      → l′ ≡ encode (x .machine) → (r ≡ report (stopOf (x .stop)) .kind) × (a′ ≡ answerOf (x .count) (report (stopOf (x .stop))) 0)
       → outcome r l′ w′ a′ ≡ ran y l w thumb a
   has-run m x r l′ w′ a′ e em ey el et = rw (← u, not-false b e, ← spoken, el, et .0, et .1)
     where

@@ -16,6 +16,7 @@ use Rattle.watch.specs.declared.Watched.{Watched}
 use Rattle.watch.specs.Watch.{answered, watchReply}
 use Rattle.watch.specs.Promise.{Promise, WordPromise}
 use Rattle.layout.specs.State.{encode, decode}
+use Rattle.known_places.specs.Count.{knownPlaces}
 use Rattle.answer.specs.Answer.{answerOf}
 use Rattle.outcomes.specs.Outcome.{invalidArgument, validCall, decodedState}
 use Rattle.outcomes.specs.WatchOutcome.{watchOutcome, reportedWatch, watched, WatchOutcome}
@@ -64,8 +65,8 @@ module _ (base : ℕ) (list l : List ℕ) (m : ℕ) (w v : List ℕ) (thumb : �
 
   -- a watched run
   module _ (q : Machine) (x : Watched) (r : ℕ) (l′ w′ v′ a′ : List ℕ) (e : not b ≡ false) (eq : q ≡ decode (eqb thumb 1) l)
-      (p : Promise base list (state q w) (mapIn m v) (answered x w′ v′)) (pw : WordPromise base list (state q w) m v (answered x w′ v′) (x .marks)) (el : l′ ≡ encode (x .machine))
-      (et : (r ≡ report (stopOf (x .stop)) .kind) × (a′ ≡ answerOf (x .count) (report (stopOf (x .stop)))))
+      (p : Promise base list (state q w) (mapIn m v) (answered x w′ v′)) (pw : WordPromise base list (state q w) m v (answered x w′ v′) (x .marks)) (ek : x .known ≡ knownPlaces (mapIn (x .marks) v′)) (el : l′ ≡ encode (x .machine))
+      (et : (r ≡ report (stopOf (x .stop)) .kind) × (a′ ≡ answerOf (x .count) (report (stopOf (x .stop))) (x .known)))
     where
       promised : Promise base list (decodedState l w thumb) (mapIn m v) (answered x w′ v′)
       promised = rw (← eq) p
@@ -75,7 +76,7 @@ module _ (base : ℕ) (list l : List ℕ) (m : ℕ) (w v : List ℕ) (thumb : �
 
       reported : watchOutcome r l′ (x .marks) w′ v′ a′ ≡ reportedWatch (x .marks) (answered x w′ v′)
       unfolding mapIn
-      reported = rw (el, et .0, et .1)
+      reported = rw (el, et .0, et .1, ek)
 
       same : watchOutcome r l′ (x .marks) w′ v′ a′ ≡ watched base list l m w v thumb a
       same = rw (← u, not-false b e, ← promised .answer, ← word-promised .word) reported

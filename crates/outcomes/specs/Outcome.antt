@@ -23,7 +23,7 @@ outcome r l w a = record { result = r; words = l; window = w; answer = a }
 
 -- a reply, after so many words of a list; a call's count is 0
 abbrev pub reported : ℕ → Reply → Outcome
-reported count y = outcome (y .report .kind) (encode (y .leaves .machine)) (y .leaves .window) (answerOf count (y .report))
+reported count y = outcome (y .report .kind) (encode (y .leaves .machine)) (y .leaves .window) (answerOf count (y .report) 0)
 
 -- the result where an argument is invalid; it is tested first
 abbrev pub invalidArgument : ℕ
@@ -35,7 +35,7 @@ resultOf n = cond (eqb n 0) 0 (cond (eqb n invalidArgument) invalidArgument (100
 
 -- whether a state, a thumb and an answer of so many words are valid
 unfoldable pub validCall : List ℕ → ℕ → ℕ → Bool
-validCall l thumb words = ltb thumb 2 && (eqb words 4 && valid l)
+validCall l thumb words = ltb thumb 2 && (eqb words 5 && valid l)
 
 -- the machine of a state's words, with a window
 abbrev pub decodedState : List ℕ → List ℕ → ℕ → State

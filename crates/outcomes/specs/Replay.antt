@@ -18,7 +18,7 @@ use Rattle.outcomes.specs.WatchPromise.{WatchPromise}
 
 -- whether a state and an answer have as many words as they should; what stands in them is not read
 unfoldable pub validReplay : ℕ → ℕ → Bool
-validReplay words answers = eqb words before && eqb answers 4
+validReplay words answers = eqb words before && eqb answers 5
 
 -- a replay's reply in the buffers
 abbrev pub reportedReplay : Reply → WatchOutcome

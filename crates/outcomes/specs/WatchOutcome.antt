@@ -5,6 +5,7 @@ use mathlib.Core.List.{List}
 use lib.ListN.{length}
 use Rattle.machine.specs.Place.{State}
 use Rattle.place_marks.specs.Word.{mapIn}
+use Rattle.known_places.specs.Count.{knownPlaces}
 use Rattle.watch.specs.Watch.{Reply, limitOf, watchReply, handedBack}
 use Rattle.layout.specs.State.{encode}
 use Rattle.answer.specs.Answer.{answerOf}
@@ -22,9 +23,9 @@ pub record WatchOutcome : Type 0 where
 abbrev pub watchOutcome : ℕ → List ℕ → ℕ → List ℕ → List ℕ → List ℕ → WatchOutcome
 watchOutcome r l m w v a = record { result = r; words = l; marks = m; window = w; windowMarks = v; answer = a }
 
--- a reply in the buffers, with the word of marks that is handed back
+-- a reply in the buffers, with the word of marks that is handed back; its map says how many places are known, after a refusal too
 abbrev pub reportedWatch : ℕ → Reply → WatchOutcome
-reportedWatch m y = watchOutcome (y .report .kind) (encode (y .leaves .machine)) m (y .leaves .window) (y .map .words) (answerOf (y .count) (y .report))
+reportedWatch m y = watchOutcome (y .report .kind) (encode (y .leaves .machine)) m (y .leaves .window) (y .map .words) (answerOf (y .count) (y .report) (knownPlaces (y .map)))
 
 -- the watched run from a machine with its window, a word of marks and the window's marks
 abbrev pub watchedFrom : ℕ → List ℕ → State → ℕ → List ℕ → WatchOutcome

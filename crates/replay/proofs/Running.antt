@@ -6,17 +6,20 @@ use mathlib.Core.Bool.{Bool, true, false, cond}
 use mathlib.Core.List.{List, _++_}
 use lib.ListN.{length, getD, take, drop}
 use lib.Seq.{take-at}
+use lib.Count.{ones}
 use borrow.Author.Tests.{ne-eqb, eq-eqb}
 use Rattle.machine.specs.declared.Machine.{Machine}
 use Rattle.machine.specs.Machine.{newMachine}
 use Rattle.machine.specs.Place.{state, before}
 use Rattle.meaning.specs.Stop.{report, refused}
-use Rattle.limits.specs.Marks.{bitsOnly}
+use Rattle.limits.specs.Marks.{bitsOnly, onesOf}
 use Rattle.limits.specs.Limit.{watchLimit}
 use Rattle.limits.proofs.Limits.{run-within, marks-within, list-within}
 use Rattle.layout.specs.State.{decode, valid}
 use Rattle.layout.proofs.Both.{snd}
-use Rattle.place_marks.specs.Word.{mapIn, wordOf}
+use Rattle.place_marks.specs.Word.{marksOf, mapIn, wordOf}
+use Rattle.known_places.specs.Count.{knownBefore, knownPlaces}
+use Rattle.known_places.proofs.Count.{before-counted, places-counted}
 use Rattle.place_marks.proofs.Word.{word-marks}
 use Rattle.watch.specs.Watch.{Reply, watchReply}
 use Rattle.records.specs.Number.{numbersOf}
@@ -77,6 +80,15 @@ module _ (b : List ℕ) (words : ℕ) (f : Fitting b words) (n : ℕ) (e : n ≡
 
 pub within-list : (n : ℕ) (l : List ℕ) → n ≤ 4096 → length l ≡ 4096 → n ≤ length l
 within-list n l h e = omega arith
+
+-- ---- the known places after a refusal
+
+none-before : 0 ≡ knownBefore (marksOf 0)
+unfolding ones
+none-before = before-counted 0
+
+pub known-refused : (w : List ℕ) (n : ℕ) → n ≡ onesOf w → n ≡ knownPlaces (mapIn 0 w)
+known-refused w n e = let z : 0 + n ≡ n = omega arith in sym z ∙ places-counted 0 w 0 n none-before e
 
 -- ---- the promise
 

@@ -6,6 +6,8 @@ ghost use lib.ListN.{length, getD, take};
 ghost use Rattle.records.specs.Number.{numbersOf};
 ghost use Rattle.layout.specs.State.{decode};
 ghost use Rattle.records.specs.Recorded.{ofBytes};
+ghost use Rattle.place_marks.specs.Word.{mapIn};
+ghost use Rattle.known_places.specs.Count.{knownPlaces};
 ghost use Rattle.watch.specs.Watch.{answered};
 ghost use Rattle.replay.specs.Replay.{wellFormed, Fitting, Accepted};
 ghost use Rattle.replay.specs.Promise.{Ran, CycleRan};
@@ -47,8 +49,8 @@ fn run_list(
     window_marks: &mut [u8],
 ) -> Watched
     requires { ⌜ (Fitting (now bytes) (length (now window))) × (length (ofBytes (now bytes) .list) ≤ 4096) ⌝ }
-    ensures { λ a. ⌜ Ran (ofBytes (now (bytes .entry)) .base) (ofBytes (now (bytes .entry)) .list) machine (now (window .entry)) known
-        (now («window_marks» .entry)) (answered a (now (window .exit)) (now («window_marks» .exit))) (a .marks) ⌝ }
+    ensures { λ a. ⌜ (Ran (ofBytes (now (bytes .entry)) .base) (ofBytes (now (bytes .entry)) .list) machine (now (window .entry)) known
+        (now («window_marks» .entry)) (answered a (now (window .exit)) (now («window_marks» .exit))) (a .marks)) × (a .known ≡ knownPlaces (mapIn (a .marks) (now («window_marks» .exit)))) ⌝ }
 {
     let words = window.len();
     let base = nth(bytes, field::BASE + 2 * words);
@@ -61,7 +63,7 @@ fn run_list(
 // Lays the window and its marks into the buffers, and runs the list.
 pub(crate) fn run_cycle(bytes: &[u8], window: &mut [u32], window_marks: &mut [u8]) -> Watched
     requires { ⌜ (Accepted (now bytes) (length (now window))) × (length (now «window_marks») ≡ length (now window)) ⌝ }
-    ensures { λ a. ⌜ CycleRan (ofBytes (now (bytes .entry))) (answered a (now (window .exit)) (now («window_marks» .exit))) (a .marks) ⌝ }
+    ensures { λ a. ⌜ (CycleRan (ofBytes (now (bytes .entry))) (answered a (now (window .exit)) (now («window_marks» .exit))) (a .marks)) × (a .known ≡ knownPlaces (mapIn (a .marks) (now («window_marks» .exit)))) ⌝ }
 {
     let words = window.len();
     let machine = machine_of(bytes, words);

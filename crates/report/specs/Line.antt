@@ -45,3 +45,7 @@ stopText kind count place address list known r15 =
 unfoldable pub ranText : ℕ → ℕ → List ℕ
 ranText count all =
     words.ranIs ++ (countText count ++ (words.ofText ++ (countText all ++ (words.wordsIs ++ (countText (all - count) ++ words.leftIs)))))
+
+-- how many places of all are known
+unfoldable pub knownText : ℕ → ℕ → List ℕ
+knownText n all = countText n ++ (words.ofText ++ (countText all ++ words.placesKnown))

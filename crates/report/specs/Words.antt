@@ -65,3 +65,7 @@ wordsIs = 32 ∷ 119 ∷ 111 ∷ 114 ∷ 100 ∷ 115 ∷ 44 ∷ 32 ∷ []
 -- ' left'
 abbrev pub leftIs : List ℕ
 leftIs = 32 ∷ 108 ∷ 101 ∷ 102 ∷ 116 ∷ []
+
+-- ' places known'
+abbrev pub placesKnown : List ℕ
+placesKnown = 32 ∷ 112 ∷ 108 ∷ 97 ∷ 99 ∷ 101 ∷ 115 ∷ 32 ∷ 107 ∷ 110 ∷ 111 ∷ 119 ∷ 110 ∷ []

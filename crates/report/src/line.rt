@@ -6,7 +6,7 @@ ghost use Rattle.machine.specs.Place.{number, core};
 ghost use Rattle.text.specs.Text.{textOf, clip};
 ghost use Rattle.bits.specs.Field.{bitOf};
 ghost use Rattle.place_values.specs.Place.{wordAt};
-ghost use Rattle.report.specs.Line.{wordText, lastText, r15Text, hungText, stopText, ranText};
+ghost use Rattle.report.specs.Line.{wordText, lastText, r15Text, hungText, stopText, ranText, knownText};
 use machine::place::PC;
 use place_values::place::word;
 use text::text::Text;
@@ -105,4 +105,15 @@ pub fn ran(count: usize, all: usize) -> Text
         return t.add_decimal(low(all - count)).add(b" left");
     }
     t.add_decimal(0).add(b" left")
+}
+
+// How many places are known, the window's among them.
+pub fn known(n: usize, all: usize) -> Text
+    ensures { λ r. ⌜ textOf r ≡ clip (knownText n all) ⌝ }
+{
+    Text::new()
+        .add_decimal(low(n))
+        .add(b" of ")
+        .add_decimal(low(all))
+        .add(b" places known")
 }

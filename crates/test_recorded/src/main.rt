@@ -124,7 +124,7 @@ fn differs(b: &[u8; 512], kind: u32, place: usize, got: u32) -> bool {
 }
 
 // Whether a call left what was recorded.
-fn left(b: &[u8; 512], kind: u32, state: &[u32; 52], window: &[u32; 8], answer: &[u32; 4]) -> bool {
+fn left(b: &[u8; 512], kind: u32, state: &[u32; 52], window: &[u32; 8], answer: &[u32; 5]) -> bool {
     if kind != word(b, KIND) {
         return differs(b, kind, 0, 0);
     }
@@ -139,6 +139,9 @@ fn left(b: &[u8; 512], kind: u32, state: &[u32; 52], window: &[u32; 8], answer: 
     }
     if answer[3] != word(b, REPORTED) {
         return differs(b, kind, 3, answer[3]);
+    }
+    if answer[4] != 0 {
+        return differs(b, kind, 4, answer[4]);
     }
     let p = as_recorded(b, LEFT, state);
     if p < 52 {
@@ -183,7 +186,7 @@ fn load_store(b: &[u8; 512], state: &mut [u32], window: &mut [u32], answer: &mut
 fn replay(b: &[u8; 512]) -> bool {
     let mut state = [0u32; 52];
     let mut window = [0u32; 8];
-    let mut answer = [0xA5A5_A5A5u32; 4];
+    let mut answer = [0xA5A5_A5A5u32; 5];
     fill(b, GIVEN, &mut state);
     fill(b, GIVEN_WINDOW, &mut window);
     let call = word(b, CALL);

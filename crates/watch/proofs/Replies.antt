@@ -1,17 +1,23 @@
 -- From the words' promises to the watched run's.
-use Prim.Native.Nat.{ℕ, _%_, _^_, _<_}
+use Prim.Native.Nat.{ℕ, _+_, _%_, _^_, _<_}
+use native.Mathlib.Omega.{arith}
 use native.Mathlib.Nat.{mod-mod, mod-lt}
 use lib.Pow.{pow-pos}
-use mathlib.Core.Path.{_≡_, ap}
+use mathlib.Core.Path.{_≡_, refl, ap}
 use mathlib.Core.Bool.{false}
 use mathlib.Core.List.{List}
+use lib.ListN.{length}
 use Rattle.machine.specs.declared.Machine.{Machine}
 use Rattle.machine.specs.declared.Controls.{Controls}
 use Rattle.machine.specs.Machine.{assembled, controlsOf}
 use Rattle.machine.specs.Place.{state}
 use Rattle.meaning.specs.Map.{Map}
 use Rattle.meaning.specs.Tree.{Tree}
-use Rattle.place_marks.specs.Word.{mapIn}
+use Rattle.limits.specs.Marks.{onesOf}
+use Rattle.limits.proofs.Ones.{ones-le}
+use Rattle.place_marks.specs.Word.{marksOf, mapIn}
+use Rattle.known_places.specs.Count.{knownBefore, knownPlaces}
+use Rattle.known_places.proofs.Count.{places-counted}
 use Rattle.place_marks.proofs.Word.{same-map}
 use Rattle.run_word.specs.declared.Stop.{Stop}
 use Rattle.run_word.specs.Stop.{stopOf}
@@ -20,14 +26,20 @@ use Rattle.watch.specs.declared.Watched.{Watched}
 use Rattle.watch.specs.Watch.{answered, reply}
 use Rattle.meaning.specs.Run as R
 
--- an answer of these parts: the bits above the last place are cut off
-pub answered-as : (a : Watched) (stop : Stop) (count : ℕ) (m : Machine) (k : ℕ) (v w : List ℕ) (e : R.Watched)
-    → (a .stop ≡ stop) × (a .count ≡ count) × (a .machine ≡ m) × (a .marks ≡ k % 2 ^ 52)
-    → R.endedWith (state m v) (mapIn k w) count (stopOf stop) ≡ e → (answered a v w ≡ reply e) × (a .marks < 2 ^ 52)
-answered-as a stop count m k v w e p q = (
+-- an answer of these parts: the bits above the last place are cut off, and do not count
+pub answered-as : (a : Watched) (stop : Stop) (count : ℕ) (m : Machine) (k n : ℕ) (v w : List ℕ) (e : R.Watched)
+    → (a .stop ≡ stop) × (a .count ≡ count) × (a .machine ≡ m) × (a .marks ≡ k % 2 ^ 52) × (a .known ≡ knownBefore (marksOf k) + n)
+    → n ≡ onesOf w → R.endedWith (state m v) (mapIn k w) count (stopOf stop) ≡ e
+    → (answered a v w ≡ reply e) × (a .marks < 2 ^ 52) × (a .known ≡ knownPlaces (mapIn (a .marks) w))
+answered-as a stop count m k n v w e p h q = (
   rw (p .0, p .1, p .2, p .3, same-map (k % 2 ^ 52) k w (mod-mod k (2 ^ 52))) (ap reply q),
   rw (p .3) (mod-lt k (pow-pos 52)),
+  rw (p .4, p .3, same-map (k % 2 ^ 52) k w (mod-mod k (2 ^ 52))) (places-counted k w (knownBefore (marksOf k)) n refl h),
 )
+
+-- a number of marks is far from the greatest number
+pub few : (w : List ℕ) (n : ℕ) → n ≡ onesOf w → length w < 2 ^ 63 → n < 2 ^ 63
+few w n e h = omega (arith, e, ones-le w)
 
 -- the run begins with the machine in its parts
 pub begun : (M : ℕ → Tree) (list : List ℕ) (m : Machine) (μ : Map) (v s r : List ℕ) (x : Controls)

@@ -10,6 +10,7 @@ ghost use Rattle.machine.specs.Place.{state, control};
 ghost use Rattle.meaning.specs.Map.{known};
 ghost use Rattle.meaning.specs.Tree.{seen, watched};
 ghost use Rattle.place_marks.specs.Word.{mapIn};
+ghost use Rattle.limits.specs.Marks.{onesOf};
 ghost use Rattle.decoding.specs.Operation.{operationOf, numberOf};
 ghost use Rattle.decoding.specs.Table.{operationTable};
 ghost use Rattle.processing.specs.Data.{dataTree};
@@ -53,7 +54,7 @@ pub struct Seen {
     pub next: Next,
 }
 
-// A word, without the growth of r15. The decode table is lent.
+// A word, without the growth of r15. The decode table is lent. The number of ones among the window's marks stays beside them: a load or store keeps it.
 pub fn watch_word(
     table: &[u8; 1024],
     s: &mut [u32; 32],
@@ -62,17 +63,18 @@ pub fn watch_word(
     window: &mut [u32],
     marks: u64,
     window_marks: &mut [u8],
+    ones: &mut usize,
     base: u32,
     op: u32,
 ) -> Seen
-    requires { ⌜ now table ≡ operationTable ⌝ }
-    ensures { λ e. ⌜ seen (state (assembled (now (s .exit)) (now (r .exit)) (e .controls) false) (now (window .exit))) (mapIn (e .marks) (now («window_marks» .exit))) (nextOf (e .next)) ≡ watched (meaning base op) (state (assembled (now (s .entry)) (now (r .entry)) x false) (now (window .entry))) (mapIn marks (now («window_marks» .entry))) ⌝ }
+    requires { ⌜ (now table ≡ operationTable) × (now ones ≡ onesOf (now «window_marks»)) ⌝ }
+    ensures { λ e. ⌜ (seen (state (assembled (now (s .exit)) (now (r .exit)) (e .controls) false) (now (window .exit))) (mapIn (e .marks) (now («window_marks» .exit))) (nextOf (e .next)) ≡ watched (meaning base op) (state (assembled (now (s .entry)) (now (r .entry)) x false) (now (window .entry))) (mapIn marks (now («window_marks» .entry)))) × (now (ones .exit) ≡ onesOf (now («window_marks» .exit))) ⌝ }
 {
     let flags = x.cpsr;
     let class = enabled_watched_class(marks, op, flags, x.fpexc);
     match class {
         WatchedClass::Data => watch_data(table, s, r, x, marks, op),
-        WatchedClass::Access => watch_access(s, r, x, window, marks, window_marks, base, op),
+        WatchedClass::Access => watch_access(s, r, x, window, marks, window_marks, ones, base, op),
         WatchedClass::Transfer => watch_transfer(s, r, x, marks, op),
         WatchedClass::Skipped => Seen {
             controls: x,
@@ -108,10 +110,12 @@ fn watch_access(
     window: &mut [u32],
     marks: u64,
     window_marks: &mut [u8],
+    ones: &mut usize,
     base: u32,
     op: u32,
 ) -> Seen
-    ensures { λ e. ⌜ seen (state (assembled (now (s .exit)) (now (r .exit)) (e .controls) false) (now (window .exit))) (mapIn (e .marks) (now («window_marks» .exit))) (nextOf (e .next)) ≡ watched (loadStoreTree base op) (state (assembled (now (s .entry)) (now (r .entry)) x false) (now (window .entry))) (mapIn marks (now («window_marks» .entry))) ⌝ }
+    requires { ⌜ now ones ≡ onesOf (now «window_marks») ⌝ }
+    ensures { λ e. ⌜ (seen (state (assembled (now (s .exit)) (now (r .exit)) (e .controls) false) (now (window .exit))) (mapIn (e .marks) (now («window_marks» .exit))) (nextOf (e .next)) ≡ watched (loadStoreTree base op) (state (assembled (now (s .entry)) (now (r .entry)) x false) (now (window .entry))) (mapIn marks (now («window_marks» .entry)))) × (now (ones .exit) ≡ onesOf (now («window_marks» .exit))) ⌝ }
 {
     let hang = hang_access(marks, op);
     match hang {
@@ -121,7 +125,7 @@ fn watch_access(
             next: Next::Halt(Stop::Hangs(place)),
         },
         Hang::Clear => {
-            let known = watched_load_store(s, r, window, marks, window_marks, base, op);
+            let known = watched_load_store(s, r, window, marks, window_marks, ones, base, op);
             Seen {
                 controls: x,
                 marks: known,

@@ -204,24 +204,24 @@ pub fn off(word: u32, fpexc: u32) -> bool {
 }
 
 /// The run over a list by document 01's rules, each word by the Rust's own call, with canonical NaNs: the kind, and what the answer has.
-pub fn listed(cpu: &mut Cpu, list: &[u32], base: u32, thumb: bool, state: &mut [u32; STATE], window: &mut [u32]) -> (u32, [u32; 4]) {
+pub fn listed(cpu: &mut Cpu, list: &[u32], base: u32, thumb: bool, state: &mut [u32; STATE], window: &mut [u32]) -> (u32, [u32; 5]) {
     let refused = if list.len() > 4096 { 1 } else { refusal(base, window.len()) };
     if refused != 0 {
-        return (100 + refused, [0; 4]);
+        return (100 + refused, [0; 5]);
     }
     if thumb {
-        return (105, [0; 4]);
+        return (105, [0; 5]);
     }
     let mut count = 0;
     for &word in list {
         let coprocessor = word >> 8 & 15;
         let load_store = word >> 25 & 7 == 6;
         if word >> 28 == 15 || !matches!(coprocessor, 10 | 11) || !(load_store || word >> 24 & 15 == 14) {
-            return (1, [count, 0, 0, 0]);
+            return (1, [count, 0, 0, 0, 0]);
         }
         if condition(word >> 28, state[51]) {
             if off(word, state[50]) {
-                return (2, [count, 0, state[47].wrapping_sub(8), word]);
+                return (2, [count, 0, state[47].wrapping_sub(8), word, 0]);
             }
             let call = match (load_store, word >> 4 & 1) {
                 (true, _) => Call::LoadStore,
@@ -232,30 +232,30 @@ pub fn listed(cpu: &mut Cpu, list: &[u32], base: u32, thumb: bool, state: &mut [
             assert!(!out.moved, "another part of the Cpu moved");
             match out.kind {
                 0 => {}
-                3 => return (3, [count + 1, 0, 0, 0]),
-                kind => return (kind, [count, 0, out.address, out.word]),
+                3 => return (3, [count + 1, 0, 0, 0, 0]),
+                kind => return (kind, [count, 0, out.address, out.word, 0]),
             }
         }
         count += 1;
         state[47] = state[47].wrapping_add(4);
     }
-    (0, [count, 0, 0, 0])
+    (0, [count, 0, 0, 0, 0])
 }
 
 /// The Rust's calls over a list by document 01's rules, on a Cpu as it stands and in ARM state: the answer of the C interface. This is
 /// the loop that the plain run is timed against: nothing is copied per word, and NaNs are left as they come.
-pub fn run_list(cpu: &mut Cpu, window: &mut [u32], base: u32, list: &[u32]) -> [u32; 4] {
+pub fn run_list(cpu: &mut Cpu, window: &mut [u32], base: u32, list: &[u32]) -> [u32; 5] {
     let mut bus = Window { base, words: window };
     let mut count = 0;
     for &word in list {
         let coprocessor = word >> 8 & 15;
         let load_store = word >> 25 & 7 == 6;
         if word >> 28 == 15 || !matches!(coprocessor, 10 | 11) || !(load_store || word >> 24 & 15 == 14) {
-            return [count, 0, 0, 0];
+            return [count, 0, 0, 0, 0];
         }
         if check_condition(word >> 28, &cpu.cpsr) {
             if off(word, cpu.vfp.fpexc) {
-                return [count, 0, cpu.regs[15].wrapping_sub(8), word];
+                return [count, 0, cpu.regs[15].wrapping_sub(8), word, 0];
             }
             let exit = match (load_store, word >> 4 & 1) {
                 (true, _) => vfp::coprocessor_load_store(cpu, &mut bus, word),
@@ -263,16 +263,16 @@ pub fn run_list(cpu: &mut Cpu, window: &mut [u32], base: u32, list: &[u32]) -> [
                 _ => vfp::data_processing(cpu, word),
             };
             if arm::take_branched(cpu) {
-                return [count + 1, 0, 0, 0];
+                return [count + 1, 0, 0, 0, 0];
             }
             if let Some(Exit::Undefined { pc, opcode }) = exit {
-                return [count, 0, pc, opcode];
+                return [count, 0, pc, opcode, 0];
             }
         }
         count += 1;
         cpu.regs[15] = cpu.regs[15].wrapping_add(4);
     }
-    [count, 0, 0, 0]
+    [count, 0, 0, 0, 0]
 }
 
 /// One call of a case by value.

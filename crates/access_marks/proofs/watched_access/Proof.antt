@@ -21,7 +21,7 @@ move-pair-requires : tie.Need-move-pair-requires
 move-pair-requires c κs = search needs
 
 returns : tie.Need-returns
-returns c = (λ q. trees.paired _ _ _ _ _ (sym (c .before .before .before .before .before .bits .ensures) ∙ c .before .before .before .before .if1 .taken) (c .move-pair .ensures q _), λ q v. paired _ _ _ _ _ _ (sym (c .before .before .before .before .before .bits .ensures) ∙ c .before .before .before .before .if1 .taken) (c .before .before .before .mark-pair .ensures _))
+returns c = (λ q. trees.paired _ _ _ _ _ (sym (c .before .before .before .before .before .bits .ensures) ∙ c .before .before .before .before .if1 .taken) (c .move-pair .ensures q _), λ q v. paired _ _ _ _ _ _ (sym (c .before .before .before .before .before .bits .ensures) ∙ c .before .before .before .before .if1 .taken) (c .before .before .before .mark-pair .ensures _), c .before .before .before .before .before .before .before .before .pre)
 
 bits-requires-2 : tie.Need-bits-requires-2
 bits-requires-2 c κs = search needs
@@ -51,7 +51,7 @@ same-length-2 : tie.Need-same-length-2
 same-length-2 c = search needs
 
 returns-2 : tie.Need-returns-2
-returns-2 c = (λ q. one.one-accessed _ (sym (c .before .before .before .before .before .before .before .before .before .before .before .one-only .ensures) ∙ c .before .before .before .before .before .before .before .before .before .before .if2 .taken) _ _ _ _ (rw (c .before .before .before .before .before .before .before .before .before .before .before .before .before .before .bits .ensures) at (c .before .before .before .before .before .before .before .before .before .before .before .before .before .if1 .left)) (rw (c .before .before .before .before .before .before .before .before .start-of .ensures, c .before .before .before .before .before .before .before .before .before .before .before .before .bits2 .ensures) at (c .before .before .before .before .watched-one .ensures .0 (withR q (now (c .before .before .before .before .before .before .before .before .before .before .before .before .before .before .before .before .before .args .r))))), λ q v. one-accessed _ (sym (c .before .before .before .before .before .before .before .before .before .before .before .one-only .ensures) ∙ c .before .before .before .before .before .before .before .before .before .before .if2 .taken) _ _ (state (withR q (now (c .before .before .before .before .before .before .before .before .before .before .before .before .before .before .before .before .before .args .r))) v) _ _ (rw (c .before .before .before .before .before .before .before .before .before .before .before .before .before .before .bits .ensures) at (c .before .before .before .before .before .before .before .before .before .before .before .before .before .if1 .left)) (rw (c .before .before .before .before .before .before .before .before .start-of .ensures, c .before .before .before .before .before .before .before .before .before .before .before .before .bits2 .ensures) at (c .before .before .before .before .watched-one .ensures .1)))
+returns-2 c = (λ q. one.one-accessed _ (sym (c .before .before .before .before .before .before .before .before .before .before .before .before .one-only .ensures) ∙ c .before .before .before .before .before .before .before .before .before .before .before .if2 .taken) _ _ _ _ (rw (c .before .before .before .before .before .before .before .before .before .before .before .before .before .before .before .bits .ensures) at (c .before .before .before .before .before .before .before .before .before .before .before .before .before .before .if1 .left)) (rw (c .before .before .before .before .before .before .before .before .before .start-of .ensures, c .before .before .before .before .before .before .before .before .before .before .before .before .before .bits2 .ensures) at (c .before .before .before .before .watched-one .ensures .0 (withR q (now (c .before .before .before .before .before .before .before .before .before .before .before .before .before .before .before .before .before .before .args .r))))), λ q v. one-accessed _ (sym (c .before .before .before .before .before .before .before .before .before .before .before .before .one-only .ensures) ∙ c .before .before .before .before .before .before .before .before .before .before .before .if2 .taken) _ _ (state (withR q (now (c .before .before .before .before .before .before .before .before .before .before .before .before .before .before .before .before .before .before .args .r))) v) _ _ (rw (c .before .before .before .before .before .before .before .before .before .before .before .before .before .before .before .bits .ensures) at (c .before .before .before .before .before .before .before .before .before .before .before .before .before .before .if1 .left)) (rw (c .before .before .before .before .before .before .before .before .before .start-of .ensures, c .before .before .before .before .before .before .before .before .before .before .before .before .before .bits2 .ensures) at (c .before .before .before .before .watched-one .ensures .1)), c .before .before .before .before .watched-one .ensures .2)
 
 mul-start-of-2 : tie.Need-mul-start-of-2
 mul-start-of-2 c = search needs
@@ -75,7 +75,7 @@ same-length-4 : tie.Need-same-length-4
 same-length-4 c = search needs
 
 returns-3 : tie.Need-returns-3
-returns-3 c = (λ q. trees.accessed _ _ _ _ (state (withS (withR q (now (c .before .before .before .before .before .before .before .before .before .before .before .before .before .before .before .before .before .before .before .args .r))) (c .before .before .before .before .watched-transfer .last .0)) (c .before .before .before .before .watched-transfer .last .1 .0)) _ (rw (c .before .before .before .before .before .before .before .before .before .before .before .before .before .before .before .before .bits .ensures) at (c .before .before .before .before .before .before .before .before .before .before .before .before .before .before .before .if1 .left)) (rw (c .before .before .before .before .before .before .before .before .before .before .start-of2 .ensures, c .before .before .before .before .before .before .before .before .before .before .before .before .before .before .bits2 .ensures) at (c .before .before .before .before .watched-transfer .ensures .0 (withR q (now (c .before .before .before .before .before .before .before .before .before .before .before .before .before .before .before .before .before .before .before .args .r))))) (c .before .before .before .before .before .before .before .before .write-back .ensures (withS q (c .before .before .before .before .watched-transfer .last .0)) (c .before .before .before .before .watched-transfer .last .1 .0)), λ q v. accessed _ _ _ (state (withR q (now (c .before .before .before .before .before .before .before .before .before .before .before .before .before .before .before .before .before .before .before .args .r))) v) _ _ (rw (c .before .before .before .before .before .before .before .before .before .before .before .before .before .before .before .before .bits .ensures) at (c .before .before .before .before .before .before .before .before .before .before .before .before .before .before .before .if1 .left)) (rw (c .before .before .before .before .before .before .before .before .before .before .start-of2 .ensures, c .before .before .before .before .before .before .before .before .before .before .before .before .before .before .bits2 .ensures) at (c .before .before .before .before .watched-transfer .ensures .1)))
+returns-3 c = (λ q. trees.accessed _ _ _ _ (state (withS (withR q (now (c .before .before .before .before .before .before .before .before .before .before .before .before .before .before .before .before .before .before .before .before .args .r))) (c .before .before .before .before .watched-transfer .last .0)) (c .before .before .before .before .watched-transfer .last .1 .0)) _ (rw (c .before .before .before .before .before .before .before .before .before .before .before .before .before .before .before .before .before .bits .ensures) at (c .before .before .before .before .before .before .before .before .before .before .before .before .before .before .before .before .if1 .left)) (rw (c .before .before .before .before .before .before .before .before .before .before .before .start-of2 .ensures, c .before .before .before .before .before .before .before .before .before .before .before .before .before .before .before .bits2 .ensures) at (c .before .before .before .before .watched-transfer .ensures .0 (withR q (now (c .before .before .before .before .before .before .before .before .before .before .before .before .before .before .before .before .before .before .before .before .args .r))))) (c .before .before .before .before .before .before .before .before .before .write-back .ensures (withS q (c .before .before .before .before .watched-transfer .last .0)) (c .before .before .before .before .watched-transfer .last .1 .0)), λ q v. accessed _ _ _ (state (withR q (now (c .before .before .before .before .before .before .before .before .before .before .before .before .before .before .before .before .before .before .before .before .args .r))) v) _ _ (rw (c .before .before .before .before .before .before .before .before .before .before .before .before .before .before .before .before .before .bits .ensures) at (c .before .before .before .before .before .before .before .before .before .before .before .before .before .before .before .before .if1 .left)) (rw (c .before .before .before .before .before .before .before .before .before .before .before .start-of2 .ensures, c .before .before .before .before .before .before .before .before .before .before .before .before .before .before .before .bits2 .ensures) at (c .before .before .before .before .watched-transfer .ensures .1)), c .before .before .before .before .watched-transfer .ensures .2)
 
 pub watched-access-spec : {M : Type 1} → statement M
 watched-access-spec =

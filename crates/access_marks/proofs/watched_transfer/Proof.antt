@@ -25,7 +25,7 @@ same-length-2 : tie.Need-same-length-2
 same-length-2 c = search needs
 
 returns : tie.Need-returns
-returns c = (λ q. (rw (c .before .before .before .before .before .before .before .before .before .first-word .ensures .0, c .before .before .before .before .before .before .before .before .word-count .ensures .0) at (c .before .before .before .before .watched-words .ensures .0 q)) ∙ sym (words.in-words (bitOf (c .before .before .before .before .before .before .before .before .before .before .before .before .args .op) 20) (c .before .before .before .before .before .before .before .before .before .before .before .before .args .base) (regOf (formatOf (c .before .before .before .before .before .before .before .before .before .before .before .before .args .double)) (field (c .before .before .before .before .before .before .before .before .before .before .before .before .args .op) 12 15) (field (c .before .before .before .before .before .before .before .before .before .before .before .before .args .op) 22 22)) (c .before .before .before .before .before .before .before .before .before .before .before .before .args .start) (formatOf (c .before .before .before .before .before .before .before .before .before .before .before .before .args .double)) (countOf (formatOf (c .before .before .before .before .before .before .before .before .before .before .before .before .args .double)) (c .before .before .before .before .before .before .before .before .before .before .before .before .args .op)) _), (rw (c .before .before .before .before .before .before .before .before .before .first-word .ensures .0, c .before .before .before .before .before .before .before .before .word-count .ensures .0) at (c .before .before .before .before .watched-words .ensures .1)) ∙ sym (in-words (bitOf (c .before .before .before .before .before .before .before .before .before .before .before .before .args .op) 20) (c .before .before .before .before .before .before .before .before .before .before .before .before .args .base) (regOf (formatOf (c .before .before .before .before .before .before .before .before .before .before .before .before .args .double)) (field (c .before .before .before .before .before .before .before .before .before .before .before .before .args .op) 12 15) (field (c .before .before .before .before .before .before .before .before .before .before .before .before .args .op) 22 22)) (c .before .before .before .before .before .before .before .before .before .before .before .before .args .start) (formatOf (c .before .before .before .before .before .before .before .before .before .before .before .before .args .double)) (countOf (formatOf (c .before .before .before .before .before .before .before .before .before .before .before .before .args .double)) (c .before .before .before .before .before .before .before .before .before .before .before .before .args .op)) _))
+returns c = (λ q. (rw (c .before .before .before .before .before .before .before .before .before .before .first-word .ensures .0, c .before .before .before .before .before .before .before .before .before .word-count .ensures .0) at (c .before .before .before .before .watched-words .ensures .0 q)) ∙ sym (words.in-words (bitOf (c .before .before .before .before .before .before .before .before .before .before .before .before .before .args .op) 20) (c .before .before .before .before .before .before .before .before .before .before .before .before .before .args .base) (regOf (formatOf (c .before .before .before .before .before .before .before .before .before .before .before .before .before .args .double)) (field (c .before .before .before .before .before .before .before .before .before .before .before .before .before .args .op) 12 15) (field (c .before .before .before .before .before .before .before .before .before .before .before .before .before .args .op) 22 22)) (c .before .before .before .before .before .before .before .before .before .before .before .before .before .args .start) (formatOf (c .before .before .before .before .before .before .before .before .before .before .before .before .before .args .double)) (countOf (formatOf (c .before .before .before .before .before .before .before .before .before .before .before .before .before .args .double)) (c .before .before .before .before .before .before .before .before .before .before .before .before .before .args .op)) _), (rw (c .before .before .before .before .before .before .before .before .before .before .first-word .ensures .0, c .before .before .before .before .before .before .before .before .before .word-count .ensures .0) at (c .before .before .before .before .watched-words .ensures .1)) ∙ sym (in-words (bitOf (c .before .before .before .before .before .before .before .before .before .before .before .before .before .args .op) 20) (c .before .before .before .before .before .before .before .before .before .before .before .before .before .args .base) (regOf (formatOf (c .before .before .before .before .before .before .before .before .before .before .before .before .before .args .double)) (field (c .before .before .before .before .before .before .before .before .before .before .before .before .before .args .op) 12 15) (field (c .before .before .before .before .before .before .before .before .before .before .before .before .before .args .op) 22 22)) (c .before .before .before .before .before .before .before .before .before .before .before .before .before .args .start) (formatOf (c .before .before .before .before .before .before .before .before .before .before .before .before .before .args .double)) (countOf (formatOf (c .before .before .before .before .before .before .before .before .before .before .before .before .before .args .double)) (c .before .before .before .before .before .before .before .before .before .before .before .before .before .args .op)) _), c .before .before .before .before .watched-words .ensures .2)
 
 pub watched-transfer-spec : {M : Type 1} → statement M
 watched-transfer-spec =

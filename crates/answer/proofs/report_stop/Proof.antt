@@ -12,6 +12,9 @@ use Rattle.answer.proofs.report_stop.Tie as tie
 cast-counted : tie.Need-cast-counted
 cast-counted c = search needs
 
+cast-shown : tie.Need-cast-shown
+cast-shown c = search needs
+
 enum-told : tie.Need-enum-told
 enum-told c = search needs
 
@@ -100,6 +103,7 @@ report-stop-spec =
     tie.close
     (tie.spec
     cast-counted
+    cast-shown
     enum-told
     write-answer-requires
     enum-told-2

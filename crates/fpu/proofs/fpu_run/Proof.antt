@@ -43,7 +43,7 @@ same-length-4 : tie.Need-same-length-4
 same-length-4 c = search needs
 
 returns-2 : tie.Need-returns-2
-returns-2 c = has-run (runReply (c .before .before .before .before .before .before .before .before .before .before .before .before .before .before .before .before .before .before .before .before .before .args .base) (c .before .before .before .before .before .before .before .before .before .before .before .before .before .before .before .before .before .before .before .before .before .args .list .now)) (c .before .before .before .before .before .before .before .before .before .before .before .before .before .before .before .before .before .before .before .before .before .args .state .now) (c .before .before .before .before .before .before .before .before .before .before .before .before .before .before .before .before .before .before .before .before .before .args .window .now) (c .before .before .before .before .before .before .before .before .before .before .before .before .before .before .before .before .before .before .before .before .before .args .answer .now) (c .before .before .before .before .before .before .before .before .before .before .before .before .before .before .before .before .before .before .before .before .before .args .thumb) (c .before .before .before .before .before .before .before .before .before .before .before .before .before .before .before .is-valid-call .result) (c .before .before .before .before .before .before .before .before .before .before .before .before .before .before .before .is-valid-call .ensures) (c .before .before .before .before .before .before .before .before .before .before .before .before .decode .result) (c .before .before .before .before .before .before .before .before .before .before .run .result) (c .before .before .report-stop .result) (c .before .before .before .before .before .before .encode .last .1 .0) (c .before .before .before .before .before .before .before .before .before .before .run .last .1 .0) (c .before .before .report-stop .last .1 .1 .0) (c .before .before .before .before .before .before .before .before .before .before .before .before .before .before .if1 .left) (c .before .before .before .before .before .before .before .before .before .before .before .before .decode .ensures) (c .before .before .before .before .before .before .before .before .before .before .run .ensures) (c .before .before .before .before .before .before .encode .ensures) (c .before .before .report-stop .ensures)
+returns-2 c = has-run (runReply (c .before .before .before .before .before .before .before .before .before .before .before .before .before .before .before .before .before .before .before .before .before .args .base) (c .before .before .before .before .before .before .before .before .before .before .before .before .before .before .before .before .before .before .before .before .before .args .list .now)) (c .before .before .before .before .before .before .before .before .before .before .before .before .before .before .before .before .before .before .before .before .before .args .state .now) (c .before .before .before .before .before .before .before .before .before .before .before .before .before .before .before .before .before .before .before .before .before .args .window .now) (c .before .before .before .before .before .before .before .before .before .before .before .before .before .before .before .before .before .before .before .before .before .args .answer .now) (c .before .before .before .before .before .before .before .before .before .before .before .before .before .before .before .before .before .before .before .before .before .args .thumb) (c .before .before .before .before .before .before .before .before .before .before .before .before .before .before .before .is-valid-call .result) (c .before .before .before .before .before .before .before .before .before .before .before .before .before .before .before .is-valid-call .ensures) (c .before .before .before .before .before .before .before .before .before .before .before .before .decode .result) (c .before .before .before .before .before .before .before .before .before .before .run .result) (c .before .before .report-stop .result) (c .before .before .before .before .before .before .encode .last .1 .0) (c .before .before .before .before .before .before .before .before .before .before .run .last .1 .0) (c .before .before .report-stop .last .1 .1 .1 .0) (c .before .before .before .before .before .before .before .before .before .before .before .before .before .before .if1 .left) (c .before .before .before .before .before .before .before .before .before .before .before .before .decode .ensures) (c .before .before .before .before .before .before .before .before .before .before .run .ensures) (c .before .before .before .before .before .before .encode .ensures) (c .before .before .report-stop .ensures)
 
 pub fpu-run-spec : {M : Type 1} → statement M
 fpu-run-spec =

@@ -24,4 +24,4 @@ fpu-watch-spec =
     (λ c. search needs)
     (λ c. search needs)
     (λ c. search needs)
-    (λ c. let a = c .before .before .before .before .before .before .before .before .before .before .before .before .before .before .before .before .before .before .before .before .before .before .before .before .before .before .args in has-watched (a .base) (a .list .now) (a .state .now) (a .marks .now) (a .window .now) (a .window-marks .now) (a .thumb) (a .answer .now) (c .before .before .before .before .before .before .before .before .before .before .before .before .before .before .before .before .before .before .before .is-valid-call .result) (c .before .before .before .before .before .before .before .before .before .before .before .before .before .before .before .before .before .before .before .is-valid-call .ensures) (c .before .before .before .before .before .before .before .before .before .before .before .before .before .before .before .before .decode .result) (c .before .before .before .before .before .before .before .before .before .before .before .before .watch .result) (c .before .before .report-stop .result) (c .before .before .before .before .before .before .encode .last .1 .0) (c .before .before .before .before .before .before .before .before .before .before .before .before .watch .last .1 .1 .0) (c .before .before .before .before .before .before .before .before .before .before .before .before .watch .last .1 .1 .1 .0) (c .before .before .report-stop .last .1 .1 .0) (c .before .before .before .before .before .before .before .before .before .before .before .before .before .before .before .before .before .before .if1 .left) (c .before .before .before .before .before .before .before .before .before .before .before .before .before .before .before .before .decode .ensures) (c .before .before .before .before .before .before .before .before .before .before .before .before .watch .ensures .0) (c .before .before .before .before .before .before .before .before .before .before .before .before .watch .ensures .1) (c .before .before .before .before .before .before .encode .ensures) (c .before .before .report-stop .ensures)))
+    (λ c. let a = c .before .before .before .before .before .before .before .before .before .before .before .before .before .before .before .before .before .before .before .before .before .before .before .before .before .before .args in has-watched (a .base) (a .list .now) (a .state .now) (a .marks .now) (a .window .now) (a .window-marks .now) (a .thumb) (a .answer .now) (c .before .before .before .before .before .before .before .before .before .before .before .before .before .before .before .before .before .before .before .is-valid-call .result) (c .before .before .before .before .before .before .before .before .before .before .before .before .before .before .before .before .before .before .before .is-valid-call .ensures) (c .before .before .before .before .before .before .before .before .before .before .before .before .before .before .before .before .decode .result) (c .before .before .before .before .before .before .before .before .before .before .before .before .watch .result) (c .before .before .report-stop .result) (c .before .before .before .before .before .before .encode .last .1 .0) (c .before .before .before .before .before .before .before .before .before .before .before .before .watch .last .1 .1 .0) (c .before .before .before .before .before .before .before .before .before .before .before .before .watch .last .1 .1 .1 .0) (c .before .before .report-stop .last .1 .1 .1 .0) (c .before .before .before .before .before .before .before .before .before .before .before .before .before .before .before .before .before .before .if1 .left) (c .before .before .before .before .before .before .before .before .before .before .before .before .before .before .before .before .decode .ensures) (c .before .before .before .before .before .before .before .before .before .before .before .before .watch .ensures .0) (c .before .before .before .before .before .before .before .before .before .before .before .before .watch .ensures .1) (c .before .before .before .before .before .before .before .before .before .before .before .before .watch .ensures .2) (c .before .before .before .before .before .before .encode .ensures) (c .before .before .report-stop .ensures)))

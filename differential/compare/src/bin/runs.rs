@@ -88,12 +88,13 @@ fn main() {
         let thumb = r.once_in(200);
         let (mut a, mut b, mut v, mut w) = (state, state, window.clone(), window.clone());
         let (kind, answer) = oracle::listed(&mut cpu, &list, base, thumb, &mut a, &mut v);
-        let mut ours = [0xA5A5_A5A5; 4];
+        let mut ours = [0xA5A5_A5A5; 5];
         let got = fpu::raw::run(&mut b, &mut w, base, thumb as u32, &list, &mut ours);
         let (mut d, mut x, mut marks, mut window_marks) = (state, window.clone(), fpu::MARKS_ALL, vec![1u8; window.len()]);
-        let mut watched = [0xA5A5_A5A5; 4];
+        let mut watched = [0xA5A5_A5A5; 5];
         let seen = fpu::raw::watch(&mut d, &mut marks, &mut x, &mut window_marks, base, thumb as u32, &list, &mut watched);
-        if seen != kind || watched != answer || a != d || v != x || marks != fpu::MARKS_ALL || window_marks.iter().any(|&m| m != 1) {
+        let known = 52 + window.len() as u32;
+        if seen != kind || watched[..4] != answer[..4] || watched[4] != known || a != d || v != x || marks != fpu::MARKS_ALL || window_marks.iter().any(|&m| m != 1) {
             wrong += 1;
             if wrong <= 10 {
                 println!("DISAGREEMENT watched {list:08X?} base {base:08X} thumb {thumb} state {state:08X?} window {window:08X?}");

@@ -1,4 +1,5 @@
 -- `access_marks::one::mark_one` meets its contract.
+use denote.Ref.{now}
 use mathlib.Core.Path.{sym, _∙_}
 use Rattle.access_marks.proofs.InTurn.{one-loaded, one-stored}
 use borrow.Author.Needs.{needs}
@@ -18,10 +19,13 @@ same-length : tie.Need-same-length
 same-length c = search needs
 
 returns : tie.Need-returns
-returns c = rw (sym (c .before .before .before .before .bit .ensures) ∙ c .before .before .before .if1 .taken) (c .mark-single .ensures _ ∙ one-loaded _ _ _ _ _ _ (c .before .word-known .ensures))
+returns c = (rw (sym (c .before .before .before .before .bit .ensures) ∙ c .before .before .before .if1 .taken) (c .mark-single .ensures (now (c .before .before .before .before .before .before .args .window-marks)) ∙ one-loaded _ _ _ _ _ _ (c .before .word-known .ensures)), c .before .before .before .before .before .before .pre)
 
 single-known-requires : tie.Need-single-known-requires
 single-known-requires c κs = search needs
+
+ones-after-requires : tie.Need-ones-after-requires
+ones-after-requires c κs = c .before .before .before .before .before .before .pre
 
 mark-word-requires : tie.Need-mark-word-requires
 mark-word-requires c κs = search needs
@@ -30,7 +34,7 @@ same-length-2 : tie.Need-same-length-2
 same-length-2 c = search needs
 
 returns-2 : tie.Need-returns-2
-returns-2 c = rw (sym (c .before .before .before .before .before .before .bit .ensures) ∙ c .before .before .before .before .before .if1 .left, c .before .before .mark-word .ensures) (one-stored _ _ _ _ _ _ (c .before .before .before .before .single-known .ensures _))
+returns-2 c = (rw (sym (c .before .before .before .before .before .before .before .before .before .bit .ensures) ∙ c .before .before .before .before .before .before .before .before .if1 .left, c .before .before .mark-word .ensures) (one-stored _ _ _ _ _ _ (c .before .before .before .before .before .before .before .single-known .ensures (now (c .before .before .before .before .before .before .before .before .before .before .before .args .window-marks)))), rw (c .before .before .mark-word .ensures) (c .before .before .before .before .ones-after .ensures))
 
 pub mark-one-spec : {M : Type 1} → statement M
 mark-one-spec =
@@ -42,6 +46,7 @@ mark-one-spec =
     same-length
     returns
     single-known-requires
+    ones-after-requires
     mark-word-requires
     same-length-2
     returns-2)

@@ -3,6 +3,7 @@ use Rattle.access_marks.proofs.InTurn.{stored}
 use lib.ListN.{length}
 use mathlib.Core.Path.{_≡_, refl, _∙_}
 use mathlib.Core.Bool.{false}
+use Rattle.limits.specs.Marks.{onesOf}
 use Rattle.place_marks.specs.Word.{mapIn}
 use Prim.Native.Nat.{_≤_, _-_}
 use lib.Ieee.{binary32}
@@ -15,19 +16,19 @@ use Rattle.access_marks.proofs.words.mark_stores.Statement.{statement}
 use Rattle.access_marks.proofs.words.mark_stores.Tie as tie
 
 abbrev Inv-loop : tie.InvT-loop
-Inv-loop marks window-marks₀ base start first count i₀ window-marks i = (i ≤ count) × (length window-marks ≡ length window-marks₀) × (mapIn marks window-marks ≡ afterMarks i (accessAt binary32 false base (first .0) start) (mapIn marks window-marks₀))
+Inv-loop marks window-marks₀ ones base start first count y₀ i₀ window-marks y i = (i ≤ count) × (length window-marks ≡ length window-marks₀) × (y ≡ onesOf window-marks) × (mapIn marks window-marks ≡ afterMarks i (accessAt binary32 false base (first .0) start) (mapIn marks window-marks₀))
 
 abbrev μ-loop : tie.MeasureT-loop
-μ-loop marks window-marks₀ base start first count i₀ window-marks i = count - i
+μ-loop marks window-marks₀ ones base start first count y₀ i₀ window-marks y i = count - i
 
 loop-holds : tie.Need-loop-holds Inv-loop μ-loop
-loop-holds c = (omega arith, refl, marks-none _ _)
+loop-holds c = (omega arith, refl, c .before .pre .2, marks-none _ _)
 
-cast-t10 : tie.Need-cast-t10 Inv-loop μ-loop
-cast-t10 c = omega arith
+cast-t13 : tie.Need-cast-t13 Inv-loop μ-loop
+cast-t13 c = omega arith
 
-add-t11 : tie.Need-add-t11 Inv-loop μ-loop
-add-t11 c = omega arith
+add-t14 : tie.Need-add-t14 Inv-loop μ-loop
+add-t14 c = omega arith
 
 single-known-requires : tie.Need-single-known-requires Inv-loop μ-loop
 single-known-requires c κs = search needs
@@ -37,6 +38,9 @@ mul-plus c = omega arith
 
 plus-requires : tie.Need-plus-requires Inv-loop μ-loop
 plus-requires c κs = search needs
+
+ones-after-requires : tie.Need-ones-after-requires Inv-loop μ-loop
+ones-after-requires c κs = c .before .before .before .before .before .loop .inv .2
 
 mark-word-requires : tie.Need-mark-word-requires Inv-loop μ-loop
 mark-word-requires c κs = search needs
@@ -48,13 +52,13 @@ loop-less : tie.Need-loop-less Inv-loop μ-loop
 loop-less c = omega arith
 
 loop-again : tie.Need-loop-again Inv-loop μ-loop
-loop-again c = (omega arith, c .before .before .mark-word .kept .0 ∙ c .before .before .before .before .before .before .before .before .loop .inv .1, rw (c .before .before .mark-word .ensures, c .before .before .before .plus .ensures) (stored _ _ _ _ _ _ _ _ (c .before .before .before .before .before .single-known .ensures (c .before .before .before .before .before .before .before .before .loop .window-marks)) (c .before .before .before .before .before .before .before .before .loop .inv .2)))
+loop-again c = (omega arith, c .before .before .mark-word .kept .0 ∙ c .before .before .before .before .before .before .before .before .before .before .loop .inv .1, rw (c .before .before .mark-word .ensures) (c .before .before .before .before .ones-after .ensures), rw (c .before .before .mark-word .ensures, c .before .before .before .before .before .before .plus .ensures) (stored _ _ _ _ _ _ _ _ (c .before .before .before .before .before .before .before .single-known .ensures (c .before .before .before .before .before .before .before .before .before .before .loop .window-marks)) (c .before .before .before .before .before .before .before .before .before .before .loop .inv .3)))
 
 same-length : tie.Need-same-length Inv-loop μ-loop
 same-length c = search needs
 
 returns : tie.Need-returns Inv-loop μ-loop
-returns c = let e : c .before .before .before .args .count ≡ c .before .loop .i = omega arith in rw e (c .before .loop .inv .2)
+returns c = let e : c .before .before .before .args .count ≡ c .before .loop .i = omega arith in (rw e (c .before .loop .inv .3), c .before .loop .inv .2)
 
 pub mark-stores-spec : {M : Type 1} → statement M
 mark-stores-spec =
@@ -63,11 +67,12 @@ mark-stores-spec =
     Inv-loop
     μ-loop
     loop-holds
-    cast-t10
-    add-t11
+    cast-t13
+    add-t14
     single-known-requires
     mul-plus
     plus-requires
+    ones-after-requires
     mark-word-requires
     add-i
     loop-less

@@ -8,10 +8,10 @@ is-contiguous-requires : tie.Need-is-contiguous-requires
 is-contiguous-requires c κs = search needs
 
 mark-block-requires : tie.Need-mark-block-requires
-mark-block-requires c κs = marks-too _ _ _ _ _ _ _ (c .before .before .is-contiguous .ensures) (c .before .if1 .taken) .1
+mark-block-requires c κs = (marks-too _ _ _ _ _ _ _ (c .before .before .before .is-contiguous .ensures) (c .before .before .if1 .taken) .1, c .before .before .before .before .before .before .pre .2)
 
 move-block-requires : tie.Need-move-block-requires
-move-block-requires c κs = marks-too _ _ _ _ _ _ _ (c .before .before .before .before .before .before .before .is-contiguous .ensures) (c .before .before .before .before .before .before .if1 .taken) .0
+move-block-requires c κs = marks-too _ _ _ _ _ _ _ (c .before .before .before .before .before .before .before .before .is-contiguous .ensures) (c .before .before .before .before .before .before .before .if1 .taken) .0
 
 same-length : tie.Need-same-length
 same-length c = search needs

@@ -18,7 +18,7 @@ report-stop-requires : tie.Need-report-stop-requires
 report-stop-requires c κs =
     let a = c .before .before .before .before .before .before .before .before .before .before .before .before .before .before .before .before .before .before .before .args in
     let replay = c .before .before .before .before .before .before .before .before .before .replay in
-    let fits = replayed-fits (a .bytes .now) (a .window .now) (a .window-marks .now) (replay .result) (replay .last .1 .0) (replay .last .1 .1 .0) (replay .ensures .answer) in
+    let fits = replayed-fits (a .bytes .now) (a .window .now) (a .window-marks .now) (replay .result) (replay .last .1 .0) (replay .last .1 .1 .0) (replay .ensures .0 .answer) in
     (answer-words (a .bytes .now) (a .state .now) (a .marks .now) (a .window .now) (a .window-marks .now) (a .answer .now) (c .before .before .before .before .before .before .before .before .before .before .before .before .before .is-valid-replay .result) (c .before .before .before .before .before .before .before .before .before .before .before .before .before .is-valid-replay .ensures) (c .before .before .before .before .before .before .before .before .before .before .before .before .if1 .left), fits .0, fits .1)
 
 returns-2 : tie.Need-returns-2
@@ -27,8 +27,8 @@ returns-2 c =
     let replay = c .before .before .before .before .before .before .before .before .before .before .before .before .replay in
     let encode = c .before .before .before .before .before .before .encode in
     let told = c .before .before .report-stop in
-    has-replayed (a .bytes .now) (a .state .now) (a .marks .now) (a .window .now) (a .window-marks .now) (a .answer .now) (c .before .before .before .before .before .before .before .before .before .before .before .before .before .before .before .before .is-valid-replay .result) (c .before .before .before .before .before .before .before .before .before .before .before .before .before .before .before .before .is-valid-replay .ensures) (replay .result) (told .result) (encode .last .1 .0) (replay .last .1 .0) (replay .last .1 .1 .0) (told .last .1 .1 .0) (c .before .before .before .before .before .before .before .before .before .before .before .before .before .before .before .if1 .left)
-    (replay .ensures) (encode .ensures) (told .ensures)
+    has-replayed (a .bytes .now) (a .state .now) (a .marks .now) (a .window .now) (a .window-marks .now) (a .answer .now) (c .before .before .before .before .before .before .before .before .before .before .before .before .before .before .before .before .is-valid-replay .result) (c .before .before .before .before .before .before .before .before .before .before .before .before .before .before .before .before .is-valid-replay .ensures) (replay .result) (told .result) (encode .last .1 .0) (replay .last .1 .0) (replay .last .1 .1 .0) (told .last .1 .1 .1 .0) (c .before .before .before .before .before .before .before .before .before .before .before .before .before .before .before .if1 .left)
+    (replay .ensures .0) (replay .ensures .1) (encode .ensures) (told .ensures)
 
 pub fpu-replay-spec : {M : Type 1} → statement M
 fpu-replay-spec =

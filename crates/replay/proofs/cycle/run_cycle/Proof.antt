@@ -60,14 +60,16 @@ returns c =
     let c₃ = c₂ .before .before .before .before in
     let c₄ = c₃ .before .before in
     let c₅ = c₄ .before in
-    let start = c₅ .before .before .before .before in
-    carried (ofBytes (now (start .args .bytes)) .base) _ (ofBytes (now (start .args .bytes)) .list) _ _ _ _ _ _ _ _ _ _ _ refl refl
-    (c₅ .machine-of .ensures) (c₃ .fill .ensures ∙ sym (window-is (now (start .args .bytes)) (length (now (start .args .window)))
-    ((start .pre .0) .fitting))) (c₄ .word .ensures ∙ ap wordOfMarks
-    (sym (known-is (now (start .args .bytes)) (length (now (start .args .window))) ((start .pre .0) .fitting))))
-    (c₂ .fill2 .ensures ∙ (ap (λ (n : ℕ). take n (drop (106 + (length (now (start .args .window)))) (numbersOf (now (start .args .bytes)))))
-    (start .pre .1) ∙ sym (window-known-is (now (start .args .bytes)) (length (now (start .args .window))) ((start .pre .0) .fitting))))
-    (c₁ .run-list .ensures)
+    let start = c₅ .before .before .before .before in (
+      carried (ofBytes (now (start .args .bytes)) .base) _ (ofBytes (now (start .args .bytes)) .list) _ _ _ _ _ _ _ _ _ _ _ refl refl
+          (c₅ .machine-of .ensures) (c₃ .fill .ensures ∙ sym (window-is (now (start .args .bytes)) (length (now (start .args .window)))
+          ((start .pre .0) .fitting))) (c₄ .word .ensures ∙ ap wordOfMarks
+          (sym (known-is (now (start .args .bytes)) (length (now (start .args .window))) ((start .pre .0) .fitting))))
+          (c₂ .fill2 .ensures ∙ (ap (λ (n : ℕ). take n (drop (106 + (length (now (start .args .window)))) (numbersOf (now (start .args .bytes)))))
+          (start .pre .1) ∙ sym (window-known-is (now (start .args .bytes)) (length (now (start .args .window))) ((start .pre .0) .fitting))))
+          (c₁ .run-list .ensures .0),
+      c₁ .run-list .ensures .1,
+    )
 
 pub run-cycle-spec : {M : Type 1} → statement M
 run-cycle-spec =

@@ -73,10 +73,12 @@ returns c =
     let c₂ = c₁ .before .before .before .before .before in
     let c₃ = c₂ .before .before in
     let c₄ = c₃ .before .before in
-    let start = c₄ .before .before .before .before in
-    carried (c₄ .nth .result) _ (take (c₃ .index .result) (c₂ .fill-list .last .1 .1 .1 .0)) _ _ _ _ _ _ _ _ _ _ _
-    (c₄ .nth .ensures ∙ sym (base-is (now (start .args .bytes)) (length (now (start .args .window))) (start .pre .0))) (c₂ .fill-list .ensures)
-    refl refl refl refl (c₁ .watch .ensures)
+    let start = c₄ .before .before .before .before in (
+      carried (c₄ .nth .result) _ (take (c₃ .index .result) (c₂ .fill-list .last .1 .1 .1 .0)) _ _ _ _ _ _ _ _ _ _ _
+          (c₄ .nth .ensures ∙ sym (base-is (now (start .args .bytes)) (length (now (start .args .window))) (start .pre .0))) (c₂ .fill-list .ensures)
+          refl refl refl refl (c₁ .watch .ensures .0, c₁ .watch .ensures .1),
+      c₁ .watch .ensures .2,
+    )
 
 pub run-list-spec : {M : Type 1} → statement M
 run-list-spec =

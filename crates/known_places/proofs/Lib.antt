@@ -1,0 +1,2 @@
+-- The laws of the number of known places.
+pub mod Count

@@ -1,0 +1,2 @@
+-- The number of known places.
+pub mod Count
