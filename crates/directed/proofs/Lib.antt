@@ -3,3 +3,4 @@ pub mod Negation
 pub mod Fitting
 pub mod Applying
 pub mod Nearest
+pub mod Control
