@@ -14,6 +14,8 @@ pub struct Mix {
     pub name: &'static str,
     pub list: Vec<u32>,
     pub state: [u32; STATE],
+    /// whether the rounding mode shows in what its words give
+    pub rounds: bool,
 }
 
 /// Sources are s8..s23 (d4..d11), which no word of arithmetic writes, so that operands stay ordinary numbers; targets are the others.
@@ -94,7 +96,7 @@ fn scalars(r: &mut Random, out: &mut Vec<Mix>) {
         for (name, bits) in names.into_iter().zip([ADD, MUL, MLA, DIV, ROOT]) {
             let state = machine(r, double, 0);
             let list = list(|_| if bits == ROOT { extension(r, double, bits, double, &t, double, &s) } else { dyadic(r, double, bits, &t, &s) });
-            out.push(Mix { name, list, state });
+            out.push(Mix { name, list, state, rounds: true });
         }
     }
 }
@@ -113,7 +115,7 @@ fn vectors(r: &mut Random, out: &mut Vec<Mix>) {
         let s = sources(double);
         let state = machine(r, double, LEN3);
         let list = list(|_| if unary { extension(r, double, bits, double, &t, double, &s) } else { dyadic(r, double, bits, &t, &s) });
-        out.push(Mix { name, list, state });
+        out.push(Mix { name, list, state, rounds: !unary || bits == ROOT });
     }
 }
 
@@ -123,10 +125,10 @@ fn others(r: &mut Random, out: &mut Vec<Mix>) {
     for (name, double, bits) in [("VMOV.F32", false, MOVE), ("VNEG.F64", true, 0x0001_0000)] {
         let (t, s) = if double { (&t2, &s2) } else { (&t1, &s1) };
         let state = machine(r, double, 0);
-        out.push(Mix { name, list: list(|_| extension(r, double, bits, double, t, double, s)), state });
+        out.push(Mix { name, list: list(|_| extension(r, double, bits, double, t, double, s)), state, rounds: false });
     }
     let state = machine(r, false, 0);
-    out.push(Mix { name: "VMOV core to single and back", list: list(|i| 0xEE00_0A10 | (i as u32 & 1) << 20 | n(false, any(r, &t1)) | (2 + r.below(6)) << 12), state });
+    out.push(Mix { name: "VMOV core to single and back", list: list(|i| 0xEE00_0A10 | (i as u32 & 1) << 20 | n(false, any(r, &t1)) | (2 + r.below(6)) << 12), state, rounds: false });
     // s8 is compared with itself: equal, so that EQ holds and NE does not
     for (name, condition) in [("VCMP, VMRS, VADDNE skipped", 0x1000_0000), ("VCMP, VMRS, VADDEQ taken", 0)] {
         let state = machine(r, false, 0);
@@ -135,7 +137,7 @@ fn others(r: &mut Random, out: &mut Vec<Mix>) {
             1 => VMRS,
             _ => dyadic(r, false, ADD, &t1, &s1) & 0x0FFF_FFFF | condition,
         });
-        out.push(Mix { name, list, state });
+        out.push(Mix { name, list, state, rounds: false });
     }
     for (name, double, bits, to, from) in [
         ("VCVT.F32.F64", true, WIDTH, false, true),
@@ -147,7 +149,7 @@ fn others(r: &mut Random, out: &mut Vec<Mix>) {
     ] {
         let (t, s) = (targets(to), sources(from));
         let state = machine(r, from, 0);
-        out.push(Mix { name, list: list(|_| extension(r, double, bits, to, &t, from, &s)), state });
+        out.push(Mix { name, list: list(|_| extension(r, double, bits, to, &t, from, &s)), state, rounds: true });
     }
 }
 
@@ -155,10 +157,10 @@ fn others(r: &mut Random, out: &mut Vec<Mix>) {
 fn memory(r: &mut Random, out: &mut Vec<Mix>) {
     let block = |load: u32, r: &mut Random| 0xEC81_0A08 | load << 20 | d(false, r.below(25));
     let state = machine(r, false, 0);
-    out.push(Mix { name: "VLDM of 8", list: list(|_| block(1, r)), state });
-    out.push(Mix { name: "VSTM of 8", list: list(|_| block(0, r)), state });
-    out.push(Mix { name: "VLDM, VSTM of 8", list: list(|i| block(i as u32 & 1, r)), state });
-    out.push(Mix { name: "VLDR", list: list(|_| 0xED91_0A00 | d(false, r.below(32)) | r.below(256)), state });
+    out.push(Mix { name: "VLDM of 8", list: list(|_| block(1, r)), state, rounds: false });
+    out.push(Mix { name: "VSTM of 8", list: list(|_| block(0, r)), state, rounds: false });
+    out.push(Mix { name: "VLDM, VSTM of 8", list: list(|i| block(i as u32 & 1, r)), state, rounds: false });
+    out.push(Mix { name: "VLDR", list: list(|_| 0xED91_0A00 | d(false, r.below(32)) | r.below(256)), state, rounds: false });
 }
 
 /// FPSCR of RunFast: FZ and default NaN.
@@ -180,7 +182,7 @@ fn mixes() -> Vec<Mix> {
     memory(&mut r, &mut out);
     let all: Vec<u32> = out.iter().filter(|x| !x.name.contains("LEN") && !x.name.contains("VCMP")).flat_map(|x| x.list[..64].to_vec()).collect();
     let state = machine(&mut r, false, 0);
-    out.push(Mix { name: "all but vectors, at random", list: list(|_| any(&mut r, &all)), state });
+    out.push(Mix { name: "all but vectors, at random", list: list(|_| any(&mut r, &all)), state, rounds: true });
     out
 }
 
@@ -189,5 +191,5 @@ pub fn of_length(len: u32) -> Mix {
     let mut r = Random(11);
     let state = machine(&mut r, false, len << 16);
     let s = sources(false);
-    Mix { name: "VADD.F32", list: list(|_| dyadic(&mut r, false, ADD, &[24, 25, 26, 27, 28, 29, 30, 31], &s)), state }
+    Mix { name: "VADD.F32", list: list(|_| dyadic(&mut r, false, ADD, &[24, 25, 26, 27, 28, 29, 30, 31], &s)), state, rounds: true }
 }

@@ -1,5 +1,6 @@
-//! bench [ROUNDS]: the plain run of libfpu.a beside the unchanged Rust's three calls in a loop, and the watched run beside the plain one.
-//! Each round times the three on the same list, one after the other; the table has the best of all rounds, in nanoseconds a word.
+//! bench [ROUNDS], bench modes [ROUNDS]: the plain run of libfpu.a beside the unchanged Rust's three calls in a loop, and the watched run beside the plain one.
+//! Each round times the three on the same list, one after the other; the table has the best of all rounds, in nanoseconds a word. With modes: the runs in each
+//! rounding mode beside mode 00.
 
 mod lists;
 
@@ -8,6 +9,9 @@ use lists::{Mix, BASE, RUN_FAST, UNKNOWN, WINDOW};
 use oracle::Cpu;
 use std::hint::black_box;
 use std::time::Instant;
+
+/// FPSCR 23:22, the rounding mode.
+const MODE: u32 = 3 << 22;
 
 /// lists that are run between two looks at the clock.
 const AT_ONCE: usize = 4;
@@ -34,7 +38,8 @@ fn best(old: &mut f64, new: f64) {
     *old = old.min(new);
 }
 
-/// the three ways on one list, each from the same machine; the two runs have to leave what the Rust leaves, with canonical NaNs.
+/// the three ways on one list, each from the same machine; the two runs have to leave what the Rust leaves, with canonical NaNs, but in a directed
+/// rounding mode, of which the Rust has none.
 fn measure(mix: &Mix, rounds: usize) -> Times {
     let window = vec![0x3F80_0000; WINDOW];
     let words = mix.list.len();
@@ -60,6 +65,10 @@ fn measure(mix: &Mix, rounds: usize) -> Times {
         }));
     }
     assert!(answers.iter().all(|a| a[0] as usize == words), "{}: not every word was run: {answers:?}", mix.name);
+    if mix.state[49] & MODE != 0 {
+        assert!(states[0] == states[1], "{}: the runs leave different states", mix.name);
+        return t;
+    }
     let (mut state, mut after) = (mix.state, window.clone());
     oracle::listed(&mut cpu, &mix.list, BASE, false, &mut state, &mut after);
     assert!(states == [state; 2] && windows[1..] == [after.clone(), after], "{}: the runs leave something else than the Rust", mix.name);
@@ -86,6 +95,18 @@ fn table(rounds: usize, lists: &str, control: u32) {
     }
     println!("| geometric mean | | | {:.2} | | {:.2} |", mean(&plain), mean(&watched));
     println!("| worst | | | {:.2} | | {:.2} |", worst(&plain), worst(&watched));
+}
+
+/// the plain and the watched run in the four rounding modes on the lists that round, and the slowest mode beside mode 00.
+fn modes(rounds: usize) {
+    println!("| rounding modes | run 00, ns a word | 01 | 10 | 11 | worst / 00 | watch 00 | 01 | 10 | 11 | worst / 00 |");
+    println!("|---|---|---|---|---|---|---|---|---|---|---|");
+    let lists = [0, 1 << 22, 2 << 22, 3 << 22].map(lists::mixes_under);
+    for i in (0..lists[0].len()).filter(|i| lists[0][*i].rounds) {
+        let t = [0, 1, 2, 3].map(|mode| measure(&lists[mode][i], rounds));
+        let row = |x: [f64; 4]| format!("{:.2} | {:.2} | {:.2} | {:.2} | {:.2}", x[0], x[1], x[2], x[3], worst(&x[1..]) / x[0]);
+        println!("| {} | {} | {} |", lists[0][i].name, row([0, 1, 2, 3].map(|m| t[m].run)), row([0, 1, 2, 3].map(|m| t[m].watch)));
+    }
 }
 
 /// the best time of one call, in microseconds.
@@ -133,7 +154,7 @@ fn growth(rounds: usize) {
     }
 }
 
-/// runs one mix once and nothing else, for bench/count: bench of MIX rust|run|watch [fast]. `bench names` lists the mixes.
+/// runs one mix once and nothing else, for bench/count: bench of MIX rust|run|watch [FPSCR]. `bench names` lists the mixes.
 fn only(number: usize, way: &str, control: u32) {
     let mixes = lists::mixes_under(control);
     let mix = &mixes[number];
@@ -158,11 +179,14 @@ fn main() {
     let words: Vec<String> = std::env::args().skip(1).collect();
     if let [of, number, way, rest @ ..] = &words[..] {
         if of == "of" {
-            return only(number.parse().expect("a mix's number"), way, if rest.is_empty() { 0 } else { RUN_FAST });
+            return only(number.parse().expect("a mix's number"), way, rest.first().map_or(0, |x| u32::from_str_radix(x, 16).expect("FPSCR in hexadecimal")));
         }
     }
     if words.first().is_some_and(|w| w == "names") {
         return lists::mixes_under(0).iter().for_each(|mix| println!("{}", mix.name));
+    }
+    if words.first().is_some_and(|w| w == "modes") {
+        return modes(words.get(1).map_or(100, |w| w.parse().expect("a number of rounds")));
     }
     let rounds = words.first().map_or(100, |w| w.parse().expect("a number of rounds"));
     table(rounds, "list of 4,096 words", 0);

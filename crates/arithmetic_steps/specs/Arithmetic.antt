@@ -4,7 +4,8 @@ use mathlib.Core.Bool.{cond}
 use mathlib.Core.List.{List, [], _∷_}
 use lib.Ieee.{Format}
 use Rattle.numbers.specs.declared.arithmetic.Arithmetic.{Arithmetic}
-use Rattle.numbers.specs.Arithmetic.{arithmetic, accumulates}
+use Rattle.numbers.specs.Arithmetic.{accumulates}
+use Rattle.directed.specs.Directed.{arithmeticBy}
 use Rattle.meaning.specs.Step.{Step, fst, rest, snd}
 use Rattle.short_vectors.specs.Vector.{bankOf, strideOf, stepOf, secondOf}
 use Rattle.short_vectors.specs.Register.{wordsOf, valuesOf, written}
@@ -16,7 +17,7 @@ operands kind d n m = cond (accumulates kind) (n ∷ m ∷ d ∷ []) (n ∷ m �
 abbrev pub arithmeticStep : Format → ℕ → Arithmetic → ℕ → ℕ → ℕ → Step
 arithmeticStep f c kind d n m =
     written f d (wordsOf f (operands kind d n m))
-    (λ vs. let x = valuesOf f vs in arithmetic f c kind (fst x) (snd x) (fst (rest (rest x))))
+    (λ vs. let x = valuesOf f vs in arithmeticBy f c kind (fst x) (snd x) (fst (rest (rest x))))
 
 -- iteration i: d and n step, and m unless it is in bank 0
 abbrev pub dyadicStep : Format → ℕ → Arithmetic → ℕ → ℕ → ℕ → ℕ → Step

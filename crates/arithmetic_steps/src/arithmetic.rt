@@ -1,25 +1,43 @@
-// The arithmetic: iterations in turn, each reading what earlier ones wrote.
+// The arithmetic: iterations in turn, each reading what earlier ones wrote. FPSCR bits 24:22, FZ and the rounding mode, tell which way a step goes: where
+// all are zero, native floats whose result is stored as it is; in mode 00, native floats; else integer work.
 ghost use mathlib.Core.Path.{_≡_};
 ghost use Prim.Native.Nat.{ℕ, _/_, _%_, _^_, _<_};
 ghost use lib.Ieee.{binary32, binary64};
 ghost use Rattle.short_vectors.specs.Vector.{iterationsOf};
 ghost use Rattle.short_vectors.specs.Register.{Stepped, Iterated};
 ghost use Rattle.arithmetic_steps.specs.Arithmetic.{arithmeticStep, dyadicStep};
+use super::register::get;
+use super::register::put;
+use directed::arithmetic::arithmetic32;
+use directed::arithmetic::arithmetic64;
+use directed::directed::directed32;
+use directed::directed::directed64;
+use floats::flush::flush32;
+use floats::flush::flush64;
 use machine::registers::Double;
 use machine::registers::Single;
 use machine::registers::get_double;
-use machine::registers::get_single;
 use machine::registers::set_double;
-use machine::registers::set_single;
 use numbers::arithmetic::Arithmetic;
 use numbers::arithmetic::applied32;
 use numbers::arithmetic::applied64;
-use numbers::arithmetic::arithmetic32;
-use numbers::arithmetic::arithmetic64;
+use rounding::rounding::rounding_of;
 use short_vectors::vector::Vector;
 
-// One step.
-pub fn arithmetic_single(
+// A step where FPSCR bits 24:22 are zero.
+pub fn unflushed_single(s: &mut [u32; 32], kind: Arithmetic, d: Single, n: Single, m: Single)
+    requires { ⌜ (d .0 < 32) × (n .0 < 32) × (m .0 < 32) ⌝ }
+    ensures { λ _. ⌜ ((control : ℕ) → control / 2 ^ 22 % 8 ≡ 0 → Stepped (arithmeticStep binary32 control kind (d .0) (n .0) (m .0)) (now (s .entry)) (now (s .exit))) ⌝ }
+{
+    let a = get(s, n);
+    let b = get(s, m);
+    let old = get(s, d);
+    let x = applied32(kind, a, b, old);
+    put(s, d, x);
+}
+
+// A step in mode 00.
+pub fn native_single(
     s: &mut [u32; 32],
     control: u32,
     kind: Arithmetic,
@@ -27,44 +45,56 @@ pub fn arithmetic_single(
     n: Single,
     m: Single,
 )
+    requires { ⌜ (d .0 < 32) × (n .0 < 32) × (m .0 < 32) × (control / 2 ^ 22 % 4 ≡ 0) ⌝ }
     ensures { λ _. ⌜ Stepped (arithmeticStep binary32 control kind (d .0) (n .0) (m .0)) (now (s .entry)) (now (s .exit)) ⌝ }
 {
-    let a = get_single(s, n);
-    let b = get_single(s, m);
-    let old = get_single(s, d);
-    let x = arithmetic32(control, kind, a, b, old);
-    set_single(s, d, x);
+    let a = get(s, n);
+    let b = get(s, m);
+    let old = get(s, d);
+    let x = flush32(control, applied32(kind, a, b, old));
+    put(s, d, x);
 }
 
-pub fn arithmetic_double(
+// A step by integers, in any mode.
+pub fn rounded_single(
     s: &mut [u32; 32],
     control: u32,
     kind: Arithmetic,
-    d: Double,
-    n: Double,
-    m: Double,
+    d: Single,
+    n: Single,
+    m: Single,
 )
-    ensures { λ _. ⌜ Stepped (arithmeticStep binary64 control kind (d .0) (n .0) (m .0)) (now (s .entry)) (now (s .exit)) ⌝ }
+    requires { ⌜ (d .0 < 32) × (n .0 < 32) × (m .0 < 32) ⌝ }
+    ensures { λ _. ⌜ Stepped (arithmeticStep binary32 control kind (d .0) (n .0) (m .0)) (now (s .entry)) (now (s .exit)) ⌝ }
 {
-    let a = get_double(s, n);
-    let b = get_double(s, m);
-    let old = get_double(s, d);
-    let x = arithmetic64(control, kind, a, b, old);
-    set_double(s, d, x);
+    let a = get(s, n);
+    let b = get(s, m);
+    let old = get(s, d);
+    let x = flush32(control, directed32(rounding_of(control), kind, a, b, old));
+    put(s, d, x);
 }
 
-// A step where results are stored as they are.
-fn unflushed_single(s: &mut [u32; 32], kind: Arithmetic, d: Single, n: Single, m: Single)
-    ensures { λ _. ⌜ ((control : ℕ) → control / 2 ^ 24 % 2 ≡ 0 → Stepped (arithmeticStep binary32 control kind (d .0) (n .0) (m .0)) (now (s .entry)) (now (s .exit))) ⌝ }
+// Any step.
+fn arithmetic_single(
+    s: &mut [u32; 32],
+    control: u32,
+    kind: Arithmetic,
+    d: Single,
+    n: Single,
+    m: Single,
+)
+    requires { ⌜ (d .0 < 32) × (n .0 < 32) × (m .0 < 32) ⌝ }
+    ensures { λ _. ⌜ Stepped (arithmeticStep binary32 control kind (d .0) (n .0) (m .0)) (now (s .entry)) (now (s .exit)) ⌝ }
 {
-    let a = get_single(s, n);
-    let b = get_single(s, m);
-    let old = get_single(s, d);
-    let x = applied32(kind, a, b, old);
-    set_single(s, d, x);
+    let a = get(s, n);
+    let b = get(s, m);
+    let old = get(s, d);
+    let x = arithmetic32(control, kind, a, b, old);
+    put(s, d, x);
 }
 
-// The iterations where results are stored as they are.
+// The iterations where FPSCR bits 24:22 are zero. A loop counts the registers that it goes on and not its iterations: of these the compiler knows that they
+// are at most eight, and takes the loop apart into eight steps.
 fn unflushed_singles(
     s: &mut [u32; 32],
     control: u32,
@@ -73,19 +103,19 @@ fn unflushed_singles(
     n: Single,
     m: Single,
 )
-    requires { ⌜ (d .0 < 32) × (n .0 < 32) × (m .0 < 32) × (control / 2 ^ 24 % 2 ≡ 0) ⌝ }
+    requires { ⌜ (d .0 < 32) × (n .0 < 32) × (m .0 < 32) × (control / 2 ^ 22 % 8 ≡ 0) ⌝ }
     ensures { λ _. ⌜ Iterated (iterationsOf binary32 control (d .0)) (dyadicStep binary32 control kind (d .0) (n .0) (m .0)) (now (s .entry)) (now (s .exit)) ⌝ }
 {
     let vector = Vector::new(control, false, d.0);
-    let count = vector.iterations;
+    let end = vector.iterations * vector.stride;
     let mut dn = d.0;
     let mut nn = n.0;
     let mut mn = m.0;
-    let mut i: usize = 0;
+    let mut far: usize = 0;
     loop {
         unflushed_single(s, kind, Single(dn), Single(nn), Single(mn));
-        i += 1;
-        if i >= count {
+        far += vector.stride;
+        if far >= end {
             return;
         }
         dn = vector.step(dn, 1);
@@ -105,20 +135,20 @@ pub fn arithmetic_singles(
     requires { ⌜ (d .0 < 32) × (n .0 < 32) × (m .0 < 32) ⌝ }
     ensures { λ _. ⌜ Iterated (iterationsOf binary32 control (d .0)) (dyadicStep binary32 control kind (d .0) (n .0) (m .0)) (now (s .entry)) (now (s .exit)) ⌝ }
 {
-    if control / 0x100_0000 % 2 == 0 {
+    if control / 0x40_0000 % 8 == 0 {
         unflushed_singles(s, control, kind, d, n, m);
         return;
     }
     let vector = Vector::new(control, false, d.0);
-    let count = vector.iterations;
+    let end = vector.iterations * vector.stride;
     let mut dn = d.0;
     let mut nn = n.0;
     let mut mn = m.0;
-    let mut i: usize = 0;
+    let mut far: usize = 0;
     loop {
         arithmetic_single(s, control, kind, Single(dn), Single(nn), Single(mn));
-        i += 1;
-        if i >= count {
+        far += vector.stride;
+        if far >= end {
             return;
         }
         dn = vector.step(dn, 1);
@@ -127,9 +157,8 @@ pub fn arithmetic_singles(
     }
 }
 
-// A step where results are stored as they are.
-fn unflushed_double(s: &mut [u32; 32], kind: Arithmetic, d: Double, n: Double, m: Double)
-    ensures { λ _. ⌜ ((control : ℕ) → control / 2 ^ 24 % 2 ≡ 0 → Stepped (arithmeticStep binary64 control kind (d .0) (n .0) (m .0)) (now (s .entry)) (now (s .exit))) ⌝ }
+pub fn unflushed_double(s: &mut [u32; 32], kind: Arithmetic, d: Double, n: Double, m: Double)
+    ensures { λ _. ⌜ ((control : ℕ) → control / 2 ^ 22 % 8 ≡ 0 → Stepped (arithmeticStep binary64 control kind (d .0) (n .0) (m .0)) (now (s .entry)) (now (s .exit))) ⌝ }
 {
     let a = get_double(s, n);
     let b = get_double(s, m);
@@ -138,8 +167,58 @@ fn unflushed_double(s: &mut [u32; 32], kind: Arithmetic, d: Double, n: Double, m
     set_double(s, d, x);
 }
 
-// The iterations where results are stored as they are. A loop of doubles counts the registers that it goes on and not its iterations: of these the compiler
-// knows that they are at most eight, and takes the loop apart into eight steps, for which it has too few registers.
+pub fn native_double(
+    s: &mut [u32; 32],
+    control: u32,
+    kind: Arithmetic,
+    d: Double,
+    n: Double,
+    m: Double,
+)
+    requires { ⌜ control / 2 ^ 22 % 4 ≡ 0 ⌝ }
+    ensures { λ _. ⌜ Stepped (arithmeticStep binary64 control kind (d .0) (n .0) (m .0)) (now (s .entry)) (now (s .exit)) ⌝ }
+{
+    let a = get_double(s, n);
+    let b = get_double(s, m);
+    let old = get_double(s, d);
+    let x = flush64(control, applied64(kind, a, b, old));
+    set_double(s, d, x);
+}
+
+pub fn rounded_double(
+    s: &mut [u32; 32],
+    control: u32,
+    kind: Arithmetic,
+    d: Double,
+    n: Double,
+    m: Double,
+)
+    ensures { λ _. ⌜ Stepped (arithmeticStep binary64 control kind (d .0) (n .0) (m .0)) (now (s .entry)) (now (s .exit)) ⌝ }
+{
+    let a = get_double(s, n);
+    let b = get_double(s, m);
+    let old = get_double(s, d);
+    let x = flush64(control, directed64(rounding_of(control), kind, a, b, old));
+    set_double(s, d, x);
+}
+
+fn arithmetic_double(
+    s: &mut [u32; 32],
+    control: u32,
+    kind: Arithmetic,
+    d: Double,
+    n: Double,
+    m: Double,
+)
+    ensures { λ _. ⌜ Stepped (arithmeticStep binary64 control kind (d .0) (n .0) (m .0)) (now (s .entry)) (now (s .exit)) ⌝ }
+{
+    let a = get_double(s, n);
+    let b = get_double(s, m);
+    let old = get_double(s, d);
+    let x = arithmetic64(control, kind, a, b, old);
+    set_double(s, d, x);
+}
+
 fn unflushed_doubles(
     s: &mut [u32; 32],
     control: u32,
@@ -148,7 +227,7 @@ fn unflushed_doubles(
     n: Double,
     m: Double,
 )
-    requires { ⌜ (d .0 < 32) × (n .0 < 32) × (m .0 < 32) × (control / 2 ^ 24 % 2 ≡ 0) ⌝ }
+    requires { ⌜ (d .0 < 32) × (n .0 < 32) × (m .0 < 32) × (control / 2 ^ 22 % 8 ≡ 0) ⌝ }
     ensures { λ _. ⌜ Iterated (iterationsOf binary64 control (d .0)) (dyadicStep binary64 control kind (d .0) (n .0) (m .0)) (now (s .entry)) (now (s .exit)) ⌝ }
 {
     let vector = Vector::new(control, true, d.0);
@@ -180,7 +259,7 @@ pub fn arithmetic_doubles(
     requires { ⌜ (d .0 < 32) × (n .0 < 32) × (m .0 < 32) ⌝ }
     ensures { λ _. ⌜ Iterated (iterationsOf binary64 control (d .0)) (dyadicStep binary64 control kind (d .0) (n .0) (m .0)) (now (s .entry)) (now (s .exit)) ⌝ }
 {
-    if control / 0x100_0000 % 2 == 0 {
+    if control / 0x40_0000 % 8 == 0 {
         unflushed_doubles(s, control, kind, d, n, m);
         return;
     }

@@ -1,2 +1,3 @@
 // Arithmetic over lent singles, and its iterations over short vectors.
 pub mod arithmetic;
+mod register;

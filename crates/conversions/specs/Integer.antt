@@ -2,17 +2,18 @@
 use Prim.Native.Nat.{ℕ}
 use mathlib.Core.Bool.{Bool}
 use mathlib.Core.List.{[], _∷_}
-use lib.Ieee.{Format}
+use lib.Ieee.{Format, binary32, binary64}
 use Rattle.machine.specs.Place.{control, sWord}
-use Rattle.rounding.specs.declared.rounding.Rounding.the-variants.{Zero}
+use Rattle.rounding.specs.declared.rounding.Rounding.the-variants.{Nearest, Zero}
 use Rattle.integers.specs.Integer.{fromInteger, toInteger}
 use Rattle.rounding.specs.Rounding.{roundingOf}
-use Rattle.meaning.specs.Step.{Step, fst, rest}
+use Rattle.meaning.specs.Step.{Step, fst, snd, rest}
 use Rattle.short_vectors.specs.Register.{wordsOf, valuesOf, written}
 
--- an integer stands in a single
+-- An integer stands in a single. A single is rounded by the mode of FPSCR 23:22; a double has room for every integer, so that no mode is looked at.
 abbrev pub fromStep : Format → Bool → ℕ → ℕ → Step
-fromStep f sign d m = written f d (sWord m ∷ []) (λ vs. fromInteger f sign (fst vs))
+fromStep binary32 sign d m = written binary32 d (control ∷ sWord m ∷ []) (λ vs. fromInteger binary32 (roundingOf (fst vs)) sign (snd vs))
+fromStep binary64 sign d m = written binary64 d (sWord m ∷ []) (λ vs. fromInteger binary64 Nearest sign (fst vs))
 
 -- to an integer, towards zero, and by the mode of FPSCR 23:22
 abbrev pub truncateStep : Format → Bool → ℕ → ℕ → Step

@@ -7,7 +7,7 @@ use Rattle.widths.specs.Convert.{narrow, widen}
 use Rattle.meaning.specs.Step.{Step, fst, rest}
 use Rattle.short_vectors.specs.Register.{wordsOf, valuesOf, written}
 
--- narrowing flushes, so FPSCR 27:0 is a source
+-- narrowing rounds by the mode and flushes, so FPSCR 27:0 is a source
 abbrev pub widenStep : ℕ → ℕ → Step
 widenStep d m = written binary64 d (wordsOf binary32 (m ∷ [])) (λ vs. widen (fst vs))
 

@@ -15,10 +15,10 @@ use machine::registers::set_single;
 use rounding::rounding::Rounding;
 use rounding::rounding::rounding_of;
 
-pub fn from_integer_single(s: &mut [u32; 32], signed: bool, d: Single, m: Single)
-    ensures { λ _. ⌜ Stepped (fromStep binary32 signed (d .0) (m .0)) (now (s .entry)) (now (s .exit)) ⌝ }
+pub fn from_integer_single(s: &mut [u32; 32], fpscr: u32, signed: bool, d: Single, m: Single)
+    ensures { λ _. ⌜ SteppedWith (fromStep binary32 signed (d .0) (m .0)) fpscr (now (s .entry)) fpscr (now (s .exit)) ⌝ }
 {
-    let x = from_integer32(signed, get_single(s, m));
+    let x = from_integer32(fpscr % 0x1000_0000, signed, get_single(s, m));
     set_single(s, d, x);
 }
 

@@ -13,7 +13,7 @@ use lib.Ieee.{Float, nan, inf, fin, Format, low, up, down, hid, ofBits, toBits}
 use lib.Ieee.Fits.{down-pos}
 use lib.Ieee.Exact.{HasValue}
 use lib.Ieee.Nearest.{div-same}
-use Rattle.rounding.specs.Rounding.{move, settled, dropped}
+use Rattle.rounding.specs.Rounding.{roundingOf, move, settled, dropped}
 use Rattle.correct_rounding.specs.Rounded.{Real, root, AtMost, AtLeast, NearestEven, LargestNotAbove, LeastNotBelow, Named, CorrectlyRounded}
 use Rattle.rounding.specs.declared.rounding.Rounding.{Rounding}
 use Rattle.rounding.specs.declared.rounding.Rounding.the-variants.{Nearest, Up, Down, Zero}
@@ -291,5 +291,5 @@ pub roots-correct : Correct
 roots-correct =
     record {
       roots = roots;
-      square-root = λ f control b a c C A h. subst (CorrectlyRounded Nearest f false (root a c)) (sym (root-unflushed f control b)) (roots Nearest f (ofBits f b) a c C A h);
+      square-root = λ f control b a c C A h. subst (CorrectlyRounded (roundingOf control) f false (root a c)) (sym (root-unflushed f control b)) (roots (roundingOf control) f (ofBits f b) a c C A h);
     }

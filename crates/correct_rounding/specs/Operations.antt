@@ -3,23 +3,23 @@ use Prim.Native.Nat.{ℕ, _+_, _-_, _*_, _/_, _%_, _^_, _<_}
 use mathlib.Core.Path.{_≡_}
 use mathlib.Core.Bool.{Bool, not, Bool·beq, _&&_, cond}
 use lib.Dec.{leb, ltb}
-use lib.Ieee.{Float, Format, binary32, binary64, unlike, add, sub, mul, div, ofBits, toBits}
+use lib.Ieee.{Float, Format, binary32, binary64, unlike, ofBits, toBits}
 use lib.Ieee.Exact.{HasValue}
-use Rattle.rounding.specs.Rounding.{cutTo, Names, apart}
+use Rattle.rounding.specs.Rounding.{roundingOf, cutTo, Names, apart}
 use Rattle.correct_rounding.specs.Rounded.{ratio, CorrectlyRounded}
 use Rattle.rounding.specs.declared.rounding.Rounding.{Rounding}
-use Rattle.rounding.specs.declared.rounding.Rounding.the-variants.{Nearest}
-use Rattle.numbers.specs.Arithmetic.{apply, applied, arithmetic}
+use Rattle.operators.specs.Operators.{zeroSign, sum, difference, product, quotient}
+use Rattle.directed.specs.Directed.{applyBy, appliedBy, arithmeticBy}
 use Rattle.widths.specs.Convert.{narrowed, narrow, widen}
 use Rattle.integers.specs.Integer.{fromInteger, clamped, toInteger}
 use Rattle.numbers.specs.declared.arithmetic.Arithmetic.{Arithmetic}
 
--- ±a + ±b: its size, and its sign, where an exact zero is negative only if both are
+-- ±a + ±b: its size, and its sign. An exact zero of unlike signs has the sign that the mode gives it: + but downwards, where it is -.
 abbrev pub sumSize : Bool → ℕ → Bool → ℕ → ℕ
 sumSize s a t b = cond (Bool·beq s t) (a + b) (apart a b)
 
-abbrev pub sumSign : Bool → ℕ → Bool → ℕ → Bool
-sumSign s a t b = cond (Bool·beq s t) s (cond (ltb a b) t (s && ltb b a))
+abbrev pub sumSign : Rounding → Bool → ℕ → Bool → ℕ → Bool
+sumSign mode s a t b = cond (Bool·beq s t) s (cond (ltb a b) t (cond (ltb b a) s (zeroSign mode)))
 
 -- the integer that a word is, signed or not
 abbrev pub negative : Bool → ℕ → Bool
@@ -30,26 +30,26 @@ magnitude signed w = cond (negative signed w) (2 ^ 32 - w) w
 
 -- x is ±a / c and y is ±b / d
 pub record Correct : Type 0 where
-  pub sums : (f : Format) (x y : Float) (s t : Bool) (a b c : ℕ) → 0 < c → HasValue x s a c → HasValue y t b c
-      → CorrectlyRounded Nearest f (sumSign s a t b) (ratio (sumSize s a t b) c) (toBits f (add f x y))
-  pub differences : (f : Format) (x y : Float) (s t : Bool) (a b c : ℕ) → 0 < c → HasValue x s a c → HasValue y t b c
-      → CorrectlyRounded Nearest f (sumSign s a (not t) b) (ratio (sumSize s a (not t) b) c) (toBits f (sub f x y))
-  pub products : (f : Format) (x y : Float) (s t : Bool) (a b c d : ℕ) → 0 < c → 0 < d → HasValue x s a c → HasValue y t b d
-      → CorrectlyRounded Nearest f (unlike s t) (ratio (a * b) (c * d)) (toBits f (mul f x y))
-  pub quotients : (f : Format) (x y : Float) (s t : Bool) (a b c d : ℕ) → 0 < c → 0 < d → 0 < b → HasValue x s a c → HasValue y t b d
-      → CorrectlyRounded Nearest f (unlike s t) (ratio (a * d) (c * b)) (toBits f (div f x y))
+  pub sums : (mode : Rounding) (f : Format) (x y : Float) (s t : Bool) (a b c : ℕ) → 0 < c → HasValue x s a c → HasValue y t b c
+      → CorrectlyRounded mode f (sumSign mode s a t b) (ratio (sumSize s a t b) c) (toBits f (sum mode f x y))
+  pub differences : (mode : Rounding) (f : Format) (x y : Float) (s t : Bool) (a b c : ℕ) → 0 < c → HasValue x s a c → HasValue y t b c
+      → CorrectlyRounded mode f (sumSign mode s a (not t) b) (ratio (sumSize s a (not t) b) c) (toBits f (difference mode f x y))
+  pub products : (mode : Rounding) (f : Format) (x y : Float) (s t : Bool) (a b c d : ℕ) → 0 < c → 0 < d → HasValue x s a c → HasValue y t b d
+      → CorrectlyRounded mode f (unlike s t) (ratio (a * b) (c * d)) (toBits f (product mode f x y))
+  pub quotients : (mode : Rounding) (f : Format) (x y : Float) (s t : Bool) (a b c d : ℕ) → 0 < c → 0 < d → 0 < b → HasValue x s a c → HasValue y t b d
+      → CorrectlyRounded mode f (unlike s t) (ratio (a * d) (b * c)) (toBits f (quotient mode f x y))
   -- a result's word is that of its value: where an operand is a NaN, the default NaN's
-  pub word-of-value : (f : Format) (kind : Arithmetic) (n m d : ℕ) → applied f kind n m d ≡ toBits f (apply f kind (ofBits f n) (ofBits f m) (ofBits f d))
+  pub word-of-value : (mode : Rounding) (f : Format) (kind : Arithmetic) (n m d : ℕ) → appliedBy mode f kind n m d ≡ toBits f (applyBy mode f kind (ofBits f n) (ofBits f m) (ofBits f d))
   -- and with FZ clear it is what is stored
-  pub stored-as-it-is : (f : Format) (control : ℕ) (kind : Arithmetic) (n m d : ℕ) → control / 2 ^ 24 % 2 ≡ 0 → arithmetic f control kind n m d ≡ applied f kind n m d
+  pub stored-as-it-is : (f : Format) (control : ℕ) (kind : Arithmetic) (n m d : ℕ) → control / 2 ^ 24 % 2 ≡ 0 → arithmeticBy f control kind n m d ≡ appliedBy (roundingOf control) f kind n m d
   -- an integer to either format, and to a double exactly
-  pub from-integer : (f : Format) (signed : Bool) (w : ℕ) → CorrectlyRounded Nearest f (negative signed w) (ratio (magnitude signed w) 1) (fromInteger f signed w)
-  pub to-double-exact : (signed : Bool) (w : ℕ) → w < 2 ^ 32 → HasValue (ofBits binary64 (fromInteger binary64 signed w)) (negative signed w) (magnitude signed w) 1
+  pub from-integer : (f : Format) (mode : Rounding) (signed : Bool) (w : ℕ) → CorrectlyRounded mode f (negative signed w) (ratio (magnitude signed w) 1) (fromInteger f mode signed w)
+  pub to-double-exact : (mode : Rounding) (signed : Bool) (w : ℕ) → w < 2 ^ 32 → HasValue (ofBits binary64 (fromInteger binary64 mode signed w)) (negative signed w) (magnitude signed w) 1
   -- a value to a format in any mode, and a double to a single with FZ clear
   pub narrowing : (mode : Rounding) (f : Format) (x : Float) (s : Bool) (a c : ℕ) → 0 < c → HasValue x s a c
       → CorrectlyRounded mode f s (ratio a c) (toBits f (narrowed mode f x))
   pub double-to-single : (control b : ℕ) (s : Bool) (a c : ℕ) → 0 < c → control / 2 ^ 24 % 2 ≡ 0 → HasValue (ofBits binary64 b) s a c
-      → CorrectlyRounded Nearest binary32 s (ratio a c) (narrow control b)
+      → CorrectlyRounded (roundingOf control) binary32 s (ratio a c) (narrow control b)
   -- a single to a double is the same value
   pub single-to-double : (b : ℕ) → ofBits binary64 (widen b) ≡ ofBits binary32 b
   -- to an integer: the whole number that the mode names, brought into the range

@@ -10,42 +10,53 @@ use lib.Ieee.{Float, nan, inf, fin, Format, binary32, binary64, low, up, down, h
 use Rattle.floats.specs.Flush.{flush}
 use Rattle.rounding.specs.Rounding.{cutTo, rounded}
 use Rattle.rounding.specs.declared.rounding.Rounding.{Rounding}
-use Rattle.rounding.specs.declared.rounding.Rounding.the-variants.{Nearest}
 use Rattle.floats.proofs.Flushing.{NotSubnormal, flush-none}
 use Rattle.packing.proofs.Formed.{rounded-lt, rounded-normal, rounded-zero}
+use Rattle.rounding.specs.declared.rounding.Rounding.the-variants.{Nearest}
+use Rattle.integers.proofs.Whole.{double-any}
 use Rattle.integers.specs.Integer.{fromInteger, clamped, integerOf, toInteger}
 
 -- ---- integers as floats
 
-whole-word : (f : Format) (s : Bool) (n : ℕ) → (toBits f (rounded Nearest f s n 1) < 2 * top f) × NotSubnormal f (toBits f (rounded Nearest f s n 1))
-whole-word f s n = (rounded-lt Nearest f s n 1 (lit< tt), go (eq-zero-or-pos n))
+whole-word : (f : Format) (mode : Rounding) (s : Bool) (n : ℕ) → (toBits f (rounded mode f s n 1) < 2 * top f) × NotSubnormal f (toBits f (rounded mode f s n 1))
+whole-word f mode s n = (rounded-lt mode f s n 1 (lit< tt), go (eq-zero-or-pos n))
   where
     least : (f : Format) → hid f * 1 ≤ 1 * 2 ^ low f
     least binary32 = lit≤ tt
     least binary64 = lit≤ tt
 
-    go : (n ≡ 0) ⊎ (0 < n) → NotSubnormal f (toBits f (rounded Nearest f s n 1))
-    go (inl z) = rounded-zero Nearest f s n 1 (lit< tt) z
-    go (inr p) = rounded-normal Nearest f s n 1 (lit< tt) (le-trans (least f) (mul-le-mul-right (2 ^ low f) p))
+    go : (n ≡ 0) ⊎ (0 < n) → NotSubnormal f (toBits f (rounded mode f s n 1))
+    go (inl z) = rounded-zero mode f s n 1 (lit< tt) z
+    go (inr p) = rounded-normal mode f s n 1 (lit< tt) (le-trans (least f) (mul-le-mul-right (2 ^ low f) p))
 
-from-word : (f : Format) (signed : Bool) (w : ℕ) → (fromInteger f signed w < 2 * top f) × NotSubnormal f (fromInteger f signed w)
+from-word : (f : Format) (mode : Rounding) (signed : Bool) (w : ℕ) → (fromInteger f mode signed w < 2 * top f) × NotSubnormal f (fromInteger f mode signed w)
 unfolding fromInteger
-from-word f signed w = go (signed && leb (2 ^ 31) w)
+from-word f mode signed w = go (signed && leb (2 ^ 31) w)
   where
-    go : (t : Bool) → (toBits f (cond t (rounded Nearest f true (2 ^ 32 - w) 1) (rounded Nearest f false w 1)) < 2 * top f)
-        × NotSubnormal f (toBits f (cond t (rounded Nearest f true (2 ^ 32 - w) 1) (rounded Nearest f false w 1)))
-    go true = whole-word f true (2 ^ 32 - w)
-    go false = whole-word f false w
+    go : (t : Bool) → (toBits f (cond t (rounded mode f true (2 ^ 32 - w) 1) (rounded mode f false w 1)) < 2 * top f)
+        × NotSubnormal f (toBits f (cond t (rounded mode f true (2 ^ 32 - w) 1) (rounded mode f false w 1)))
+    go true = whole-word f mode true (2 ^ 32 - w)
+    go false = whole-word f mode false w
 
-pub from-integer-lt : (f : Format) (signed : Bool) (w : ℕ) → fromInteger f signed w < 2 * top f
-from-integer-lt f signed w = from-word f signed w .0
+pub from-integer-lt : (f : Format) (mode : Rounding) (signed : Bool) (w : ℕ) → fromInteger f mode signed w < 2 * top f
+from-integer-lt f mode signed w = from-word f mode signed w .0
 
-pub from-integer-not-subnormal : (f : Format) (signed : Bool) (w : ℕ) → NotSubnormal f (fromInteger f signed w)
-from-integer-not-subnormal f signed w = from-word f signed w .1
+pub from-integer-not-subnormal : (f : Format) (mode : Rounding) (signed : Bool) (w : ℕ) → NotSubnormal f (fromInteger f mode signed w)
+from-integer-not-subnormal f mode signed w = from-word f mode signed w .1
+
+-- as a double it is exact, so that every mode gives the same
+pub from-integer-exact : (mode : Rounding) (signed : Bool) (w : ℕ) → w < 2 ^ 32 → fromInteger binary64 Nearest signed w ≡ fromInteger binary64 mode signed w
+unfolding fromInteger
+from-integer-exact mode signed w h = go (signed && leb (2 ^ 31) w)
+  where
+    go : (t : Bool) → toBits binary64 (cond t (rounded Nearest binary64 true (2 ^ 32 - w) 1) (rounded Nearest binary64 false w 1))
+        ≡ toBits binary64 (cond t (rounded mode binary64 true (2 ^ 32 - w) 1) (rounded mode binary64 false w 1))
+    go true = double-any mode true (2 ^ 32 - w) (omega arith)
+    go false = double-any mode false w (omega arith)
 
 -- flushing an integer as a float changes nothing
-pub from-integer-unflushed : (f : Format) (control : ℕ) (signed : Bool) (w : ℕ) → flush f control (fromInteger f signed w) ≡ fromInteger f signed w
-from-integer-unflushed f control signed w = flush-none f control (fromInteger f signed w) (from-integer-not-subnormal f signed w)
+pub from-integer-unflushed : (f : Format) (control : ℕ) (mode : Rounding) (signed : Bool) (w : ℕ) → flush f control (fromInteger f mode signed w) ≡ fromInteger f mode signed w
+from-integer-unflushed f control mode signed w = flush-none f control (fromInteger f mode signed w) (from-integer-not-subnormal f mode signed w)
 
 -- ---- floats as integers
 

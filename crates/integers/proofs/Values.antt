@@ -4,6 +4,7 @@ use mathlib.Core.Bool.{true, false}
 use lib.Ieee.{binary32, binary64, ofBits, toBits, odd}
 use Rattle.floats.specs.Flush.{flush}
 use Rattle.rounding.specs.Rounding.{roundingOf, rounded}
+use Rattle.rounding.specs.declared.rounding.Rounding.the-variants.{Nearest, Up, Down, Zero}
 use Rattle.integers.specs.Integer.{fromInteger, integerOf, toInteger}
 
 -- To signed in mode 00: 2.5, -0.5, -1.5, of doubles and of singles. -0.5 in mode 10, signed and unsigned.
@@ -18,7 +19,10 @@ pub values : (toInteger binary64 (roundingOf 0) true 0x4004_0000_0000_0000 ≡ 2
 unfolding toInteger integerOf roundingOf rounded ofBits toBits
 values = (refl, refl, refl, refl, refl, refl, refl, refl)
 
--- the largest unsigned integer
-pub integer-value : fromInteger binary32 false 0xFFFF_FFFF ≡ 0x4F80_0000
+-- the largest unsigned integer, to nearest and towards zero, and -(2 ^ 24 + 1) upwards and downwards
+pub integer-values : (fromInteger binary32 Nearest false 0xFFFF_FFFF ≡ 0x4F80_0000)
+    × (fromInteger binary32 Zero false 0xFFFF_FFFF ≡ 0x4F7F_FFFF)
+    × (fromInteger binary32 Up true 0xFEFF_FFFF ≡ 0xCB80_0000)
+    × (fromInteger binary32 Down true 0xFEFF_FFFF ≡ 0xCB80_0001)
 unfolding fromInteger rounded flush ofBits toBits odd
-integer-value = refl
+integer-values = (refl, refl, refl, refl)

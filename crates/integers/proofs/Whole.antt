@@ -1,30 +1,31 @@
 -- Integers to floats, and floats to integers. Assumes nothing.
 use mathlib.Core.Path.{_≡_, refl, sym, ap, _∙_, subst}
-use mathlib.Core.Logic.{inr}
+use mathlib.Core.Logic.{inl, inr}
 use mathlib.Core.Bool.{Bool, true, false, _&&_, cond, and-false}
 use Prim.Native.Nat.{ℕ, _+_, _-_, _*_, _/_, _%_, _^_, _≤_, _<_, min}
-use native.Mathlib.Nat.{le-trans, le-of-eq, le-of-lt, lt-of-lt-of-le, one-mul, mul-one, min-eq-left, mul-assoc, mul-le-mul, le-div-iff-mul-le}
+use native.Mathlib.Nat.{le-trans, le-of-eq, le-of-lt, lt-of-lt-of-le, one-mul, mul-one, min-eq-left, mul-assoc, mul-le-mul, le-div-iff-mul-le, div-one, mod-one, eq-zero-or-pos}
 use native.Mathlib.Omega.{arith}
+use lib.Count.{leadingZeros}
 use lib.Dec.{leb, ltb, eqb, lit≤, lit<}
 use lib.Pow.{pow-add, pow-pos, pow-mono}
-use lib.Ieee.{Float, nan, inf, fin, Format, binary32, binary64, up, down, ofBits, toBits}
+use lib.Ieee.{Float, nan, inf, fin, Format, binary32, binary64, up, down, hid, ones, top, ofBits, toBits}
 use lib.Ieee.Fits.{down-pos, fits-widens}
 use lib.Ieee.Bits.{ofBits-toBits, ofBits-fits}
 use lib.Ieee.Exact.{HasValue}
 use borrow.Author.Tests.{le-leb, lt-leb, le-ltb}
 use Rattle.rounding.specs.Rounding.{cutTo, rounded, IsCut}
-use Rattle.packing.specs.Pack.{ceiling, IsSettled}
+use Rattle.packing.specs.Pack.{ceiling, packed, IsSettled}
 use Rattle.integers.specs.Integer.{fromInteger, clamped, integerOf, toInteger}
 use Rattle.widths.specs.Convert.{widen}
 use Rattle.rounding.specs.Lift.{Lifted}
 use Rattle.rounding.specs.declared.rounding.Rounding.{Rounding}
 use Rattle.rounding.specs.declared.rounding.Rounding.the-variants.{Nearest}
-use Rattle.floats.proofs.Units.{slide, reads-low, reads-normal, reads-inf}
+use Rattle.floats.proofs.Units.{Lead, slide, reads-low, reads-normal, reads-inf}
 use Rattle.floats.proofs.Patterns.{nan-of-fields}
-use Rattle.rounding.proofs.Cutting.{move-ge, cut-le, cut-same, cut-far}
+use Rattle.rounding.proofs.Cutting.{move-ge, cut-le, cut-same, cut-far, cut-exact}
 use Rattle.packing.proofs.Written.{ceiling-ge, rounded-bits, exact-is, over-is, tiny-is}
 use Rattle.packing.proofs.Settle.{settled-same}
-use Rattle.rounding.proofs.Lifting.{moved-is}
+use Rattle.rounding.proofs.Lifting.{moved-is, lifted}
 
 -- ---- a whole number as a float, over the format
 
@@ -102,22 +103,52 @@ module _ (mode : Rounding) (s : Bool) (n r kept : ℕ) (x : Bool) (l : Lifted n 
             ∙ sym (tiny-is mode binary32 s n 1 (178 - r) (n * 2 ^ r) (2 ^ 29) (lit< tt) (pow-pos 29) scale (digits-few .0) (inr (digits-few .1)));
       }
 
+-- as a double: n is m * 2 ^ k of the smallest values, of which nothing is dropped, so that every mode gives the same
+double-at : (mode : Rounding) (s : Bool) (n k m : ℕ) → n * 2 ^ 1074 * 1 ≡ m * (1 * 2 ^ k) → m < 2 ^ 53 → Lead binary64 k m → k ≤ 1074
+    → toBits binary64 (rounded mode binary64 s n 1) ≡ cond s (top binary64) 0 + (k * hid binary64 + m)
+double-at mode s n k m e h l g =
+    rounded-bits mode binary64 s n 1 k m 1 (lit< tt) (lit< tt) e (subst (λ (z : ℕ). z < 2 ^ 53) (sym (div-one m)) h) (subst (Lead binary64 k) (sym (div-one m)) l)
+    ∙ ap (packed mode binary64 s k) (cut-exact mode s m 1 (lit< tt) (mod-one m) ∙ div-one m)
+    ∙ ap (λ (z : ℕ). cond s (top binary64) 0 + z) (min-eq-left (le-trans (low k m g h) (ceiling-ge mode binary64 s)))
+  where
+    low : (k m : ℕ) → k ≤ 1074 → m < 2 ^ 53 → k * hid binary64 + m ≤ ones binary64 * hid binary64 - 1
+    low k m g h = omega arith
+
+pub double-any : (mode : Rounding) (s : Bool) (n : ℕ) → n < 2 ^ 53 → toBits binary64 (rounded Nearest binary64 s n 1) ≡ toBits binary64 (rounded mode binary64 s n 1)
+double-any mode s n h = elim (eq-zero-or-pos n) [
+  | inl z ↦ same 0 0 (ap (λ (x : ℕ). x * 2 ^ 1074 * 1) z) (lit< tt) (inl refl) (lit≤ tt)
+  | inr p ↦
+      let r = leadingZeros 64 n - 11 in
+      let l = lifted n p h in
+      same (1074 - r) (n * 2 ^ r) (slide n 1074 0 r (1074 - r) (exps r (l .most)) ∙ ap (λ (z : ℕ). n * 2 ^ r * z) (sym (one-mul (2 ^ (1074 - r))))) (l .below) (inr (l .least)) (most r)
+]
+  where
+    same : (k m : ℕ) → n * 2 ^ 1074 * 1 ≡ m * (1 * 2 ^ k) → m < 2 ^ 53 → Lead binary64 k m → k ≤ 1074
+        → toBits binary64 (rounded Nearest binary64 s n 1) ≡ toBits binary64 (rounded mode binary64 s n 1)
+    same k m e u l g = double-at Nearest s n k m e u l g ∙ sym (double-at mode s n k m e u l g)
+
+    exps : (r : ℕ) → r ≤ 52 → 1074 + 0 ≡ r + (1074 - r)
+    exps r h = omega arith
+
+    most : (r : ℕ) → 1074 - r ≤ 1074
+    most r = omega arith
+
 -- ---- by the sign of a word
 
-value-is : (f : Format) (g n : Bool) (signed : Bool) (w : ℕ) → signed ≡ g → leb (2 ^ 31) w ≡ n
-    → fromInteger f signed w ≡ toBits f (cond (g && n) (rounded Nearest f true (2 ^ 32 - w) 1) (rounded Nearest f false w 1))
+value-is : (f : Format) (mode : Rounding) (g n : Bool) (signed : Bool) (w : ℕ) → signed ≡ g → leb (2 ^ 31) w ≡ n
+    → fromInteger f mode signed w ≡ toBits f (cond (g && n) (rounded mode f true (2 ^ 32 - w) 1) (rounded mode f false w 1))
 unfolding fromInteger
-value-is f g n signed w p q = rw (p, q)
+value-is f mode g n signed w p q = rw (p, q)
 
-module _ (f : Format) (signed : Bool) (w bits : ℕ) where
-  pub below-zero : signed ≡ true → 2 ^ 31 ≤ w → bits ≡ toBits f (rounded Nearest f true (2 ^ 32 - w) 1) → bits ≡ fromInteger f signed w
-  below-zero e h p = p ∙ sym (value-is f true true signed w e (le-leb (2 ^ 31) w h))
+module _ (f : Format) (mode : Rounding) (signed : Bool) (w bits : ℕ) where
+  pub below-zero : signed ≡ true → 2 ^ 31 ≤ w → bits ≡ toBits f (rounded mode f true (2 ^ 32 - w) 1) → bits ≡ fromInteger f mode signed w
+  below-zero e h p = p ∙ sym (value-is f mode true true signed w e (le-leb (2 ^ 31) w h))
 
-  pub signed-up : signed ≡ true → w < 2 ^ 31 → bits ≡ toBits f (rounded Nearest f false w 1) → bits ≡ fromInteger f signed w
-  signed-up e h p = p ∙ sym (value-is f true false signed w e (lt-leb (2 ^ 31) w h))
+  pub signed-up : signed ≡ true → w < 2 ^ 31 → bits ≡ toBits f (rounded mode f false w 1) → bits ≡ fromInteger f mode signed w
+  signed-up e h p = p ∙ sym (value-is f mode true false signed w e (lt-leb (2 ^ 31) w h))
 
-  pub unsigned : signed ≡ false → bits ≡ toBits f (rounded Nearest f false w 1) → bits ≡ fromInteger f signed w
-  unsigned e p = p ∙ sym (value-is f false (leb (2 ^ 31) w) signed w e refl)
+  pub unsigned : signed ≡ false → bits ≡ toBits f (rounded mode f false w 1) → bits ≡ fromInteger f mode signed w
+  unsigned e p = p ∙ sym (value-is f mode false (leb (2 ^ 31) w) signed w e refl)
 
 -- ---- a double as a whole number
 

@@ -5,15 +5,14 @@ use lib.Dec.{leb}
 use lib.Ieee.{Float, nan, inf, fin, Format, up, down, ofBits, toBits}
 use Rattle.rounding.specs.Rounding.{rounded, cutTo}
 use Rattle.rounding.specs.declared.rounding.Rounding.{Rounding}
-use Rattle.rounding.specs.declared.rounding.Rounding.the-variants.{Nearest}
 
 -- a word of 32 bits, signed or not, as a value
 abbrev pub integerValue : Rounding → Format → Bool → ℕ → Float
 integerValue mode f signed w = cond (signed && leb (2 ^ 31) w) (rounded mode f true (2 ^ 32 - w) 1) (rounded mode f false w 1)
 
--- rounded to nearest even: exact as a double
-unfoldable pub fromInteger : Format → Bool → ℕ → ℕ
-fromInteger f signed w = toBits f (integerValue Nearest f signed w)
+-- rounded by the mode: exact as a double
+unfoldable pub fromInteger : Format → Rounding → Bool → ℕ → ℕ
+fromInteger f mode signed w = toBits f (integerValue mode f signed w)
 
 -- the word of the integer of the sign s and the size c, at the nearest end where it is out of range
 abbrev pub clamped : Bool → Bool → ℕ → ℕ

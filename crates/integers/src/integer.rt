@@ -3,6 +3,8 @@ ghost use mathlib.Core.Path.{_≡_};
 ghost use Prim.Native.Nat.{_<_, _^_};
 ghost use lib.Ieee.{binary32, binary64};
 ghost use Rattle.packing.specs.Pack.{IsSettled};
+ghost use Rattle.rounding.specs.Rounding.{roundingOf};
+ghost use Rattle.rounding.specs.declared.rounding.Rounding.{Rounding};
 ghost use Rattle.integers.specs.Integer.{fromInteger, clamped, toInteger};
 use packing::pack::Settled32;
 use packing::pack::Settled64;
@@ -13,18 +15,20 @@ use rounding::lift::lift;
 use rounding::rounding::Rounding;
 use rounding::rounding::cut;
 use rounding::rounding::least;
+use rounding::rounding::rounding_of;
+use widths::convert::shorten;
 use widths::convert::widen;
 
 // A whole number as a single, rounded. Of its 53 digits 29 are dropped, and it is never too large.
-fn whole32(mode: Rounding, negative: bool, n: u64) -> Settled32
+fn whole32(control: u32, negative: bool, n: u64) -> Settled32
     requires { ⌜ n < 2 ^ 53 ⌝ }
-    ensures { λ r. ⌜ IsSettled mode binary32 negative n 1 (r .bits) (r .exact) (r .over) (r .tiny) ⌝ }
+    ensures { λ r. ⌜ IsSettled (roundingOf control) binary32 negative n 1 (r .bits) (r .exact) (r .over) (r .tiny) ⌝ }
 {
     if n == 0 {
-        return settle32(mode, negative, 0, 0);
+        return settle32(rounding_of(control), negative, 0, 0);
     }
     let up = lift(n);
-    let c = cut(mode, negative, n << up, 29);
+    let c = shorten(control, negative, n << up);
     Settled32 {
         bits: (sign32(negative) + ((178 - up) * 0x80_0000 + c.kept)) as u32,
         exact: c.exact,
@@ -45,24 +49,25 @@ fn whole64(mode: Rounding, negative: bool, n: u64) -> Settled64
     settle64(mode, negative, (n << up) * 512, 2200 - up)
 }
 
-pub fn from_integer32(signed: bool, w: u32) -> u32
-    ensures { λ r. ⌜ r ≡ fromInteger binary32 signed w ⌝ }
+pub fn from_integer32(control: u32, signed: bool, w: u32) -> u32
+    ensures { λ r. ⌜ r ≡ fromInteger binary32 (roundingOf control) signed w ⌝ }
 {
     let n = w as u64;
     if signed {
         if n >= 0x8000_0000 {
-            let r = whole32(Rounding::Nearest, true, 0x1_0000_0000 - n);
+            let r = whole32(control, true, 0x1_0000_0000 - n);
             return r.bits;
         }
-        let r = whole32(Rounding::Nearest, false, n);
+        let r = whole32(control, false, n);
         return r.bits;
     }
-    let r = whole32(Rounding::Nearest, false, n);
+    let r = whole32(control, false, n);
     r.bits
 }
 
+// A double has room for every integer, so that no mode changes it.
 pub fn from_integer64(signed: bool, w: u32) -> u64
-    ensures { λ r. ⌜ r ≡ fromInteger binary64 signed w ⌝ }
+    ensures { λ r. ⌜ ((mode : Rounding) → r ≡ fromInteger binary64 mode signed w) ⌝ }
 {
     let n = w as u64;
     if signed {

@@ -1,26 +1,12 @@
--- The arithmetic of one step by the tests that the code makes, and what its result depends on. Over the format. Assumes nothing.
+-- The arithmetic of one step by the tests that the code makes. Over the format. Assumes nothing.
 use mathlib.Core.Path.{_≡_, refl, sym, ap, _∙_}
 use mathlib.Core.Bool.{Bool, true, false, _&&_, cond, _||_}
-use Prim.Native.Nat.{ℕ, _/_, _%_, _^_}
+use Prim.Native.Nat.{ℕ}
 use lib.Ieee.{Float, nan, inf, fin, Format, add, sub, mul, div, neg, isNan, ofBits, toBits, nanBits}
 use lib.Ieee.Bits.{nanBits-is}
-use Rattle.floats.specs.Flush.{flush}
-use Rattle.floats.proofs.Flushing.{flush-off}
-use Rattle.numbers.specs.Arithmetic.{apply, accumulates, defaultNan, applied, arithmetic}
+use Rattle.numbers.specs.Arithmetic.{apply, accumulates, defaultNan, applied}
 use Rattle.numbers.specs.declared.arithmetic.Arithmetic.{Arithmetic}
 use Rattle.numbers.specs.declared.arithmetic.Arithmetic.the-variants.{MultiplyAccumulate, MultiplySubtract, NegateMultiplySubtract, NegateMultiplyAccumulate, Multiply, NegateMultiply, Add, Subtract, Divide}
-
--- a kind that does not read d
-pub unread : (f : Format) (kind : Arithmetic) (n m d e : Float) → accumulates kind ≡ false → apply f kind n m d ≡ apply f kind n m e
-unread f MultiplyAccumulate n m d e h = cc
-unread f MultiplySubtract n m d e h = cc
-unread f NegateMultiplySubtract n m d e h = cc
-unread f NegateMultiplyAccumulate n m d e h = cc
-unread f Multiply n m d e h = refl
-unread f NegateMultiply n m d e h = refl
-unread f Add n m d e h = refl
-unread f Subtract n m d e h = refl
-unread f Divide n m d e h = refl
 
 -- ---- a NaN operand makes a NaN
 
@@ -124,22 +110,3 @@ module _ (f : Format) (kind : Arithmetic) (n m d : ℕ) where
       e
       ∙ ap (toBits f) (w ∙ ap (λ (t : Float). apply f kind t y z) p ∙ ap (λ (t : Float). apply f kind (ofBits f n) t z) q ∙ ap (λ (t : Float). apply f kind (ofBits f n) (ofBits f m) t) s)
       ∙ sym (word-of-value f kind n m d)
-
--- the result does not depend on a d that is not read
-pub without-d : (f : Format) (control : ℕ) (kind : Arithmetic) (n m d e : ℕ) → accumulates kind ≡ false → arithmetic f control kind n m d ≡ arithmetic f control kind n m e
-unfolding arithmetic
-without-d f control kind n m d e a =
-    ap (flush f control)
-    (applied-is f kind n m d (nanBits f n) (nanBits f m) false (nanBits f d) refl refl a refl
-    ∙ ap (λ (v : Float). cond (nanBits f n || (nanBits f m || false)) (defaultNan f) (toBits f v)) (unread f kind (ofBits f n) (ofBits f m) (ofBits f d) (ofBits f e) a)
-    ∙ sym (applied-is f kind n m e (nanBits f n) (nanBits f m) false (nanBits f e) refl refl a refl))
-
--- flushed
-pub stored : (f : Format) (control : ℕ) (kind : Arithmetic) (n m d r b : ℕ) → r ≡ flush f control b → b ≡ applied f kind n m d → r ≡ arithmetic f control kind n m d
-unfolding arithmetic
-stored f control kind n m d r b e h = e ∙ ap (flush f control) h
-
--- where FPSCR bit 24 is clear, nothing is flushed
-pub kept : (f : Format) (control : ℕ) (kind : Arithmetic) (n m d : ℕ) → control / 2 ^ 24 % 2 ≡ 0 → arithmetic f control kind n m d ≡ applied f kind n m d
-unfolding arithmetic
-kept f control kind n m d h = sym (flush-off f control (applied f kind n m d) h)

@@ -5,10 +5,9 @@ use lib.Dec.{T, lit<}
 use lib.Ieee.{Float, Format, binary32, binary64, top, fits, ofBits}
 use lib.Ieee.Bits.{toBits-lt}
 use lib.Ieee.Fits.{add-fits, sub-fits, mul-fits, div-fits, neg-fits}
-use Rattle.numbers.specs.Arithmetic.{apply, defaultNan, anyNan, applied, arithmetic}
+use Rattle.numbers.specs.Arithmetic.{apply, defaultNan, anyNan, applied}
 use Rattle.numbers.specs.declared.arithmetic.Arithmetic.{Arithmetic}
 use Rattle.numbers.specs.declared.arithmetic.Arithmetic.the-variants.{MultiplyAccumulate, MultiplySubtract, NegateMultiplySubtract, NegateMultiplyAccumulate, Multiply, NegateMultiply, Add, Subtract, Divide}
-use Rattle.floats.proofs.Flushing.{flush-lt}
 
 apply-fits : (f : Format) (kind : Arithmetic) (n m d : Float) → T (fits f (apply f kind n m d))
 apply-fits f MultiplyAccumulate n m d = add-fits f d _
@@ -32,7 +31,3 @@ either-lt false x y z h k = k
 pub applied-lt : (f : Format) (kind : Arithmetic) (n m d : ℕ) → applied f kind n m d < 2 * top f
 unfolding applied
 applied-lt f kind n m d = either-lt (anyNan f kind n m d) (defaultNan f) _ (2 * top f) (nan-lt f) (toBits-lt f _ (apply-fits f kind (ofBits f n) (ofBits f m) (ofBits f d)))
-
-pub arithmetic-lt : (f : Format) (control : ℕ) (kind : Arithmetic) (n m d : ℕ) → arithmetic f control kind n m d < 2 * top f
-unfolding arithmetic
-arithmetic-lt f control kind n m d = flush-lt f control (applied f kind n m d) (applied-lt f kind n m d)

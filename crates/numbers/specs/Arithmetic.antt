@@ -2,7 +2,6 @@
 use Prim.Native.Nat.{ℕ, _+_, _*_, _/_}
 use mathlib.Core.Bool.{Bool, true, false, _&&_, cond, _||_}
 use lib.Ieee.{Float, Format, add, sub, mul, div, neg, ofBits, toBits, nanBits, hid, ones}
-use Rattle.floats.specs.Flush.{flush}
 use Rattle.numbers.specs.declared.arithmetic.Arithmetic.{Arithmetic}
 use Rattle.numbers.specs.declared.arithmetic.Arithmetic.the-variants.{MultiplyAccumulate, MultiplySubtract, NegateMultiplySubtract, NegateMultiplyAccumulate, Multiply, NegateMultiply, Add, Subtract, Divide}
 
@@ -41,7 +40,3 @@ anyNan f kind n m d = nanBits f n || (nanBits f m || (accumulates kind && nanBit
 -- the result's word before flushing
 unfoldable pub applied : Format → Arithmetic → ℕ → ℕ → ℕ → ℕ
 applied f kind n m d = cond (anyNan f kind n m d) (defaultNan f) (toBits f (apply f kind (ofBits f n) (ofBits f m) (ofBits f d)))
-
-unfoldable pub arithmetic : Format → ℕ → Arithmetic → ℕ → ℕ → ℕ → ℕ
-unfolding applied
-arithmetic f control kind n m d = flush f control (applied f kind n m d)

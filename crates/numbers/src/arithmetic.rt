@@ -1,9 +1,7 @@
 // The arithmetic of one step. Each operator is a float's own and rounds once in its width.
 ghost use mathlib.Core.Path.{_≡_};
 ghost use lib.Ieee.{binary32, binary64, ofBits};
-ghost use Rattle.numbers.specs.Arithmetic.{apply, accumulates, applied, arithmetic};
-use floats::flush::flush32;
-use floats::flush::flush64;
+ghost use Rattle.numbers.specs.Arithmetic.{apply, accumulates, applied};
 use floats::word::bits32;
 use floats::word::bits64;
 use floats::word::float32;
@@ -145,16 +143,4 @@ pub fn applied64(kind: Arithmetic, n: u64, m: u64, d: u64) -> u64
         return DEFAULT_NAN64;
     }
     bits64(apply64(kind, operands64(n, m, d)))
-}
-
-pub fn arithmetic32(control: u32, kind: Arithmetic, n: u32, m: u32, d: u32) -> u32
-    ensures { λ r. ⌜ r ≡ arithmetic binary32 control kind n m d ⌝ }
-{
-    flush32(control, applied32(kind, n, m, d))
-}
-
-pub fn arithmetic64(control: u32, kind: Arithmetic, n: u64, m: u64, d: u64) -> u64
-    ensures { λ r. ⌜ r ≡ arithmetic binary64 control kind n m d ⌝ }
-{
-    flush64(control, applied64(kind, n, m, d))
 }

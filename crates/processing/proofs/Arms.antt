@@ -88,10 +88,15 @@ module _ (f : Format) (w : ℕ) (s : List ℕ) (fpscr : ℕ) (s′ : List ℕ) (
     stepped : (one : ℕ → ℕ → Step) → ((thumb : Bool) → namedTree f w o thumb ≡ go (once (one d₁ m₁))) → Stepped (one d m) s s′ → Does fpscr
     stepped one e h = stepped-with one e (λ q v. h (withFpscr q fpscr) v)
 
-  pub from-integer : {d m : ℕ} → d ≡ regD f w → m ≡ regM binary32 w → (sign : Bool) → o ≡ cond sign Fsito Fuito → Stepped (fromStep f sign d m) s s′ → Does fpscr
-  unfolding operationTree
-  from-integer d′ m′ true e = stepped d′ m′ (fromStep f true) (λ thumb. rw e)
-  from-integer d′ m′ false e = stepped d′ m′ (fromStep f false) (λ thumb. rw e)
+  module _ {d m : ℕ} (d′ : d ≡ regD f w) (m′ : m ≡ regM binary32 w) where
+    pub from-integer : (sign : Bool) → o ≡ cond sign Fsito Fuito → SteppedWith (fromStep f sign d m) fpscr s fpscr s′ → Does fpscr
+    unfolding operationTree
+    from-integer true e = stepped-with d′ m′ (fromStep f true) (λ thumb. rw e)
+    from-integer false e = stepped-with d′ m′ (fromStep f false) (λ thumb. rw e)
+
+    -- whatever FPSCR is
+    pub from-integer-exact : (sign : Bool) → o ≡ cond sign Fsito Fuito → Stepped (fromStep f sign d m) s s′ → Does fpscr
+    from-integer-exact sign e h = from-integer sign e (λ q v. h (withFpscr q fpscr) v)
 
   module _ {d m : ℕ} (d′ : d ≡ regD binary32 w) (m′ : m ≡ regM f w) where
     pub rounded : (sign : Bool) → o ≡ cond sign Ftosi Ftoui → SteppedWith (roundStep f sign d m) fpscr s fpscr s′ → Does fpscr

@@ -89,11 +89,11 @@ pub(crate) fn process_single(s: &mut [u32; 32], fpscr: u32, op: u32, o: Operatio
             Processed::Done(fpscr)
         }
         Operation::Fuito => {
-            from_integer_single(s, false, single_d(op), single_m(op));
+            from_integer_single(s, fpscr, false, single_d(op), single_m(op));
             Processed::Done(fpscr)
         }
         Operation::Fsito => {
-            from_integer_single(s, true, single_d(op), single_m(op));
+            from_integer_single(s, fpscr, true, single_d(op), single_m(op));
             Processed::Done(fpscr)
         }
         Operation::Ftoui => {

@@ -63,8 +63,11 @@ module _ (μ : Map) where
   pub narrow-marks : (d m : ℕ) → stepMarks (narrowStep d m) μ ≡ markIn binary32 μ d (knownIn binary64 μ m && known μ control)
   narrow-marks d m = ap (λ (b : Bool). markIn binary32 μ d (b && known μ control)) (all-known binary64 (m ∷ []))
 
-  pub from-marks : (f : Format) (sign : Bool) (d m : ℕ) → stepMarks (fromStep f sign d m) μ ≡ markIn f μ d (knownIn binary32 μ m)
-  from-marks f sign d m = written-marks f d (sWord m ∷ []) _
+  pub from-single-marks : (sign : Bool) (d m : ℕ) → stepMarks (fromStep binary32 sign d m) μ ≡ markIn binary32 μ d (knownIn binary32 μ m && known μ control)
+  from-single-marks sign d m = refl
+
+  pub from-double-marks : (sign : Bool) (d m : ℕ) → stepMarks (fromStep binary64 sign d m) μ ≡ markIn binary64 μ d (knownIn binary32 μ m)
+  from-double-marks sign d m = refl
 
   pub truncate-marks : (f : Format) (sign : Bool) (d m : ℕ) → stepMarks (truncateStep f sign d m) μ ≡ markIn binary32 μ d (knownIn f μ m)
   truncate-marks f sign d m = ap (markIn binary32 μ d) (all-known f (m ∷ []))

@@ -81,7 +81,7 @@ fn m_known(marks: u64, double: bool, op: u32) -> bool
     single_known(marks, single_m(op))
 }
 
-// From an integer, signed or not.
+// From an integer, signed or not. A single is rounded by the mode, so that FPSCR 27:0 is needed too; a double is exact.
 pub fn mark_from_integer(marks: u64, double: bool, op: u32) -> u64
     ensures { λ y. ⌜ ((signed : Bool) → MarksStepped (fromStep (precision double) signed (regD (precision double) op) (regM binary32 op)) marks y) ⌝ }
 {
@@ -89,10 +89,10 @@ pub fn mark_from_integer(marks: u64, double: bool, op: u32) -> u64
     if double {
         return mark_double(marks, double_d(op), all);
     }
-    mark_single(marks, single_d(op), all)
+    mark_single(marks, single_d(op), all & is_known(marks, CONTROL))
 }
 
-// Narrowing needs FPSCR 27:0, since it flushes; widening does not.
+// Narrowing needs FPSCR 27:0, since it rounds and flushes; widening does not.
 pub fn mark_convert(marks: u64, double: bool, op: u32) -> u64
     ensures { λ y. ⌜ MarksStepped (convertStep (precision double) op) marks y ⌝ }
 {

@@ -1,18 +1,21 @@
 -- Roots by an estimate that is checked: what the check tells. Assumes nothing.
-use mathlib.Core.Path.{_≡_, refl, sym, ap, _∙_}
+use mathlib.Core.Path.{_≡_, refl, sym, ap, _∙_, subst}
 use mathlib.Core.Logic.{_⊎_, inl, inr}
 use mathlib.Core.Bool.{Bool, true, false, _&&_, cond}
-use Prim.Native.Nat.{ℕ, _+_, _-_, _*_, _/_, _%_, _^_, _≤_, _<_, Ordering·lt, Ordering·gt}
+use Prim.Native.Nat.{ℕ, suc, _+_, _-_, _*_, _/_, _%_, _^_, _≤_, _<_, Ordering·lt, Ordering·gt}
 use native.Mathlib.Nat.{le-refl, le-trans, lt-trans, le-of-lt, lt-of-le-of-lt, lt-of-not-le, add-comm, le-of-suc-le-suc, mul-le-mul, mul-lt-mul-of-pos-right}
 use native.Mathlib.Decide.{decLe, decLt}
 use native.Mathlib.Omega.{arith}
 use native.Mathlib.Numerals.{add-one}
-use lib.Dec.{ltb, lit<}
+use lib.Dec.{leb, ltb, eqb, lit<}
 use lib.Ieee.{Format, binary32, binary64, prec, hid, ones, top, ofBits, toBits, nearest}
-use borrow.Author.Tests.{lt-ltb, le-ltb, ltb-true}
-use Rattle.rounding.specs.declared.rounding.Rounding.the-variants.{Nearest}
-use Rattle.roots.specs.Root.{rootCut, sqrtOf, radicand, IsNearestRoot}
+use borrow.Author.Tests.{lt-ltb, le-ltb, ltb-true, leb-true, eq-eqb, ne-eqb}
+use Rattle.rounding.specs.Rounding.{roundingOf}
+use Rattle.rounding.specs.declared.rounding.Rounding.{Rounding}
+use Rattle.rounding.specs.declared.rounding.Rounding.the-variants.{Nearest, Up, Down, Zero}
+use Rattle.roots.specs.Root.{rootCut, sqrtOf, radicand, IsRoot, IsRoundedRoot, IsEstimate}
 use Rattle.rounding.proofs.Order.{compare-is}
+use Rattle.rounding.proofs.Cutting.{mode-up, mode-down, mode-zero}
 use Rattle.roots.proofs.RootDigits.{rounds}
 use Rattle.roots.proofs.Sqrt.{base, rise, shift, root-mid}
 
@@ -104,8 +107,113 @@ module _ (q rest : ℕ) where
       go (inl u) (inr v) = sums 1 (omega arith) ∙ sym (next (u .0) (v .0))
       go (inl u) (inl v) = sums 2 (omega arith) ∙ sym (second (v .0) h)
 
-pub found : (n m most more r : ℕ) → n ≡ m → most ≤ more → IsNearestRoot n most r → IsNearestRoot m more r
-found n m most more r e h p = record { is = λ (l : 0 < r). p .is l ∙ ap (λ (z : ℕ). rootCut Nearest z 1) e; below = le-trans (p .below) h }
+-- ---- downwards and upwards, by the steps that what is left has room for
+
+module _ (q rest : ℕ) where
+  abbrev used : ℕ → ℕ
+  used i = i * (2 * q + i)
+
+  -- so many steps, and what is left after them
+  abbrev Stepped : ℕ → Type 0
+  Stepped i = (used i ≤ rest) × IsRoot (q * q + rest) (q + i) (rest - used i)
+
+  none : rest ≤ 2 * q → Stepped 0
+  none l = (omega arith, record { sum = omega arith; least = omega arith })
+
+  one : 2 * q < rest → rest ≤ 4 * q + 3 → Stepped 1
+  one l m = (omega arith, record { sum = omega arith; least = omega arith })
+
+  two : 4 * q + 3 < rest → rest ≤ 5 * q + 6 → Stepped 2
+  two l m = (omega arith, record { sum = omega arith; least = omega arith })
+
+  steps-are : (a b : ℕ) → rest ≤ 5 * q + 6 → a ≡ cond (ltb (2 * q) rest) 1 0 → b ≡ cond (ltb (4 * q + 3) rest) 1 0 → Stepped (a + b)
+  steps-are a b h p d = go (bit-is a (2 * q) rest p) (bit-is b (4 * q + 3) rest d)
+    where
+      sums : (a b x y : ℕ) → a ≡ x → b ≡ y → x + y ≡ a + b
+      sums a b x y u v = omega arith
+
+      never : rest ≤ 2 * q → 4 * q + 3 < rest → ⊥
+      never l m = omega arith
+
+      go : ((2 * q < rest) × (a ≡ 1)) ⊎ ((rest ≤ 2 * q) × (a ≡ 0)) → ((4 * q + 3 < rest) × (b ≡ 1)) ⊎ ((rest ≤ 4 * q + 3) × (b ≡ 0)) → Stepped (a + b)
+      go (inr u) (inr v) = subst Stepped (sums a b 0 0 (u .1) (v .1)) (none (u .0))
+      go (inr u) (inl v) = absurd (never (u .0) (v .0))
+      go (inl u) (inr v) = subst Stepped (sums a b 1 0 (u .1) (v .1)) (one (u .0) (v .0))
+      go (inl u) (inl v) = subst Stepped (sums a b 1 1 (u .1) (v .1)) (two (v .0) h)
+
+  pub directed-is : (up : Bool) (a b c : ℕ) → rest ≤ 5 * q + 6 → a ≡ cond (ltb (2 * q) rest) 1 0 → b ≡ cond (ltb (4 * q + 3) rest) 1 0
+      → c ≡ cond (up && ltb (used (a + b)) rest) 1 0 → q + (a + b) + c ≡ rootCut (cond up Up Zero) (q * q + rest) 1
+  directed-is false a b c h p d g = nothing (q + (a + b)) c g ∙ rounds Zero (q * q + rest) (q + (a + b)) (rest - used (a + b)) (steps-are a b h p d .1)
+    where
+      nothing : (x c : ℕ) → c ≡ 0 → x + c ≡ x
+      nothing x c e = omega arith
+  directed-is true a b c h p d g = go (bit-is c (used (a + b)) rest g)
+    where
+      next : (x c : ℕ) → c ≡ 1 → x + c ≡ suc x
+      next x c e = omega arith
+
+      same : (x c : ℕ) → c ≡ 0 → x + c ≡ x
+      same x c e = omega arith
+
+      some : (u r : ℕ) → u < r → (r - u) * 2 ≡ 0 → ⊥
+      some u r l e = omega arith
+
+      zero-left : (u r : ℕ) → r ≤ u → (r - u) * 2 ≡ 0
+      zero-left u r l = omega arith
+
+      root : cond (eqb ((rest - used (a + b)) * 2) 0) (q + (a + b)) (suc (q + (a + b))) ≡ rootCut Up (q * q + rest) 1
+      root = rounds Up (q * q + rest) (q + (a + b)) (rest - used (a + b)) (steps-are a b h p d .1)
+
+      go : ((used (a + b) < rest) × (c ≡ 1)) ⊎ ((rest ≤ used (a + b)) × (c ≡ 0)) → q + (a + b) + c ≡ rootCut Up (q * q + rest) 1
+      go (inl u) = next (q + (a + b)) c (u .1) ∙ ap (λ (t : Bool). cond t (q + (a + b)) (suc (q + (a + b)))) (sym (ne-eqb ((rest - used (a + b)) * 2) 0 (some (used (a + b)) rest (u .0)))) ∙ root
+      go (inr u) = same (q + (a + b)) c (u .1) ∙ ap (λ (t : Bool). cond t (q + (a + b)) (suc (q + (a + b)))) (sym (eq-eqb ((rest - used (a + b)) * 2) 0 (zero-left (used (a + b)) rest (u .0)))) ∙ root
+
+pub used-most : (q i : ℕ) → i ≤ 2 → i * (2 * q + i) ≤ 4 * q + 4
+used-most q i h = le-trans (mul-le-mul h (both q i h)) (most q)
+  where
+    both : (q i : ℕ) → i ≤ 2 → 2 * q + i ≤ 2 * q + 2
+    both q i h = omega arith
+
+    most : (q : ℕ) → 2 * (2 * q + 2) ≤ 4 * q + 4
+    most q = omega arith
+
+-- the mode of a control word whose mode is not 00: upwards, or as towards zero
+pub by-mode : (control n : ℕ) → 0 < control / 2 ^ 22 % 4 → rootCut (cond (eqb (control / 2 ^ 22 % 4) 1) Up Zero) n 1 ≡ rootCut (roundingOf control) n 1
+by-mode control n h = go (decLt (control / 2 ^ 22 % 4) 2) (decLt (control / 2 ^ 22 % 4) 3)
+  where
+    mode : ℕ
+    mode = control / 2 ^ 22 % 4
+
+    some : (x : ℕ) → 0 < x → x ≡ 0 → ⊥
+    some x h e = omega arith
+
+    first : (x : ℕ) → 0 < x → x < 2 → x ≡ 1
+    first x h l = omega arith
+
+    later : (x : ℕ) → (x < 2 → ⊥) → x ≡ 1 → ⊥
+    later x l e = omega arith
+
+    second : (x : ℕ) → (x < 2 → ⊥) → x < 3 → x ≡ 2
+    second x n l = omega arith
+
+    last : (x : ℕ) → (x < 3 → ⊥) → x ≡ 2 → ⊥
+    last x n e = omega arith
+
+    at : (x : Bool) (r : Rounding) → eqb mode 1 ≡ x → r ≡ roundingOf control → rootCut (cond x Up Zero) n 1 ≡ rootCut r n 1 → rootCut (cond (eqb mode 1) Up Zero) n 1 ≡ rootCut (roundingOf control) n 1
+    at x r e d p = ap (λ (t : Bool). rootCut (cond t Up Zero) n 1) e ∙ p ∙ ap (λ (z : Rounding). rootCut z n 1) d
+
+    go : Dec (mode < 2) → Dec (mode < 3) → rootCut (cond (eqb mode 1) Up Zero) n 1 ≡ rootCut (roundingOf control) n 1
+    go (yes l) d = at true Up (eq-eqb mode 1 (first mode h l)) (mode-up control (some mode h) (first mode h l)) refl
+    go (no k) (yes l) = at false Down (ne-eqb mode 1 (later mode k)) (mode-down control (some mode h) (later mode k) (second mode k l)) refl
+    go (no k) (no l) = at false Zero (ne-eqb mode 1 (later mode k)) (mode-zero control (some mode h) (later mode k) (last mode l)) refl
+
+-- of an estimate that is near
+pub found : (mode : Rounding) (n most q rest r : ℕ) (near : Bool) → IsEstimate n most q rest near → near ≡ true → IsRoundedRoot mode (q * q + rest) (q + 3) r
+    → (r ≡ rootCut mode n 1) × (r ≤ most + 2)
+found mode n most q rest r near e t p = (p .is ∙ ap (λ (z : ℕ). rootCut mode z 1) (e .sum t), le-trans (p .below) (three q most (e .below t)))
+  where
+    three : (q m : ℕ) → q < m → q + 3 ≤ m + 2
+    three q m l = omega arith
 
 -- ---- what is left, of wrapped differences
 
@@ -167,8 +275,52 @@ snd : (a b : Bool) → a && b ≡ true → b ≡ true
 snd true b e = e
 snd false b e = let z : _≡_ {A = ℕ} 0 1 = cc in absurd (omega arith)
 
-pub both-small : (a b m : ℕ) → ltb a m && ltb b m ≡ true → (a < m) × (b < m)
-both-small a b m e = (ltb-true a m (fst (ltb a m) (ltb b m) e), ltb-true b m (snd (ltb a m) (ltb b m) e))
+pub three-small : (a b m rest n : ℕ) → ltb a m && ltb b m && leb rest n ≡ true → (a < m) × (b < m) × (rest ≤ n)
+three-small a b m rest n e =
+    let u = fst (ltb a m && ltb b m) (leb rest n) e in
+    (ltb-true a m (fst (ltb a m) (ltb b m) u), ltb-true b m (snd (ltb a m) (ltb b m) u), leb-true rest n (snd (ltb a m && ltb b m) (leb rest n) e))
+
+-- ---- estimates
+
+pub short-estimate : (x q rest : ℕ) → q < 2 ^ 26 → x < 2 ^ 54 → (rest + q * q) % 2 ^ 64 ≡ x / 64 → IsEstimate (x / 64) (2 ^ 24) q rest (leb rest (5 * q + 6))
+short-estimate x q rest Q X e = record {
+  small = lt-trans Q (lit< tt);
+  sum = λ t. whole (leb-true rest (5 * q + 6) t);
+  room = leb-true rest (5 * q + 6);
+  below = λ t. square-below q rest (x / 64) (2 ^ 24) (whole (leb-true rest (5 * q + 6) t)) (few x X);
+}
+  where
+    whole : rest ≤ 5 * q + 6 → q * q + rest ≡ x / 64
+    whole l = short-rest (x / 64) q rest Q e l
+
+    few : (x : ℕ) → x < 2 ^ 54 → x / 64 < 2 ^ 24 * 2 ^ 24
+    few x h = omega arith
+
+module _ (x h l a b rest : ℕ) where
+  abbrev q : ℕ
+  q = h * 0x400_0000 + l
+
+  pub long-estimate : x < 2 ^ 54 → h < 2 ^ 29 → l < 2 ^ 32 → (a < 2 ^ 31 → l < 2 ^ 31) → (a + h * h) % 2 ^ 64 ≡ x → (b + 2 * h * l) % 2 ^ 64 ≡ a % 0x40_0000_0000 * 0x400_0000
+      → (rest + l * l) % 2 ^ 64 ≡ b % 0x40_0000_0000 * 0x400_0000
+      → IsEstimate (x * 2 ^ 52) (2 ^ 53) q rest (ltb a 0x8000_0000 && ltb b 0x8000_0000 && leb rest (5 * q + 6))
+  long-estimate X H L S ea eb er = record {
+    small = most h l H L;
+    sum = whole;
+    room = λ t. told t .2;
+    below = λ t. square-below q rest (x * 2 ^ 52) (2 ^ 53) (whole t) (few x X);
+  }
+    where
+      most : (h l : ℕ) → h < 2 ^ 29 → l < 2 ^ 32 → h * 0x400_0000 + l < 2 ^ 60
+      most h l H L = omega arith
+
+      told : ltb a 0x8000_0000 && ltb b 0x8000_0000 && leb rest (5 * q + 6) ≡ true → (a < 0x8000_0000) × (b < 0x8000_0000) × (rest ≤ 5 * q + 6)
+      told t = three-small a b 0x8000_0000 rest (5 * q + 6) t
+
+      whole : ltb a 0x8000_0000 && ltb b 0x8000_0000 && leb rest (5 * q + 6) ≡ true → q * q + rest ≡ x * 2 ^ 52
+      whole t = let u = told t in long-rest x h l a b rest H (S (u .0)) ea eb er (u .0) (u .1) (u .2)
+
+      few : (x : ℕ) → x < 2 ^ 54 → x * 2 ^ 52 < 2 ^ 53 * 2 ^ 53
+      few x h = omega arith
 
 -- ---- the word, from the radicand's root
 
@@ -208,8 +360,8 @@ normal binary32 b h l = (omega arith, λ e. omega arith, λ e. omega arith)
 normal binary64 b h l = (omega arith, λ e. omega arith, λ e. omega arith)
 
 -- a normal value's word
-pub near-word : (f : Format) (b y n kept r : ℕ) → hid f ≤ b → b < ones f * hid f → y ≡ b % (2 * hid f) * 2 ^ rise f → n ≡ radicand y * 2 ^ 10 * 2 ^ (prec f + prec f) / 2 ^ 64
-    → kept ≡ rootCut Nearest n 1 → r ≡ ((b % top f / hid f + shift f) / 2 + base f) * hid f + kept → r ≡ toBits f (sqrtOf Nearest f (ofBits f b))
-near-word f b y n kept r h l e d k w =
+pub near-word : (mode : Rounding) (f : Format) (b y n kept r : ℕ) → hid f ≤ b → b < ones f * hid f → y ≡ b % (2 * hid f) * 2 ^ rise f → n ≡ radicand y * 2 ^ 10 * 2 ^ (prec f + prec f) / 2 ^ 64
+    → kept ≡ rootCut mode n 1 → r ≡ ((b % top f / hid f + shift f) / 2 + base f) * hid f + kept → r ≡ toBits f (sqrtOf mode f (ofBits f b))
+near-word mode f b y n kept r h l e d k w =
     let u = normal f b h l in
-    w ∙ root-mid Nearest f b (digits f b) kept (u .0) (u .1) (u .2) refl (k ∙ ap (λ (z : ℕ). rootCut Nearest z 1) (d ∙ ap (λ (z : ℕ). z * 2 ^ (prec f + prec f) / 2 ^ 64) (placed f b y l e)))
+    w ∙ root-mid mode f b (digits f b) kept (u .0) (u .1) (u .2) refl (k ∙ ap (λ (z : ℕ). rootCut mode z 1) (d ∙ ap (λ (z : ℕ). z * 2 ^ (prec f + prec f) / 2 ^ 64) (placed f b y l e)))

@@ -2,13 +2,12 @@
 use Prim.Native.Nat.{ℕ, zero, suc, _+_, _-_, _*_, _/_, _%_, _^_, _≤_, _<_, compare}
 use mathlib.Core.Path.{_≡_}
 use mathlib.Core.Logic.{_⊎_}
-use mathlib.Core.Bool.{Bool, false, cond}
+use mathlib.Core.Bool.{Bool, true, false, cond}
 use lib.Dec.{leb, ltb, eqb}
 use lib.Ieee.{Float, nan, inf, fin, Format, low, up, down, size, ofBits, toBits}
 use Rattle.floats.specs.Flush.{flush}
-use Rattle.rounding.specs.Rounding.{move, settled, dropped}
+use Rattle.rounding.specs.Rounding.{roundingOf, move, settled, dropped}
 use Rattle.rounding.specs.declared.rounding.Rounding.{Rounding}
-use Rattle.rounding.specs.declared.rounding.Rounding.the-variants.{Nearest}
 
 -- the largest number whose square is at most n, for an n below 4 ^ d, a binary digit at a time
 unfoldable pub rootIn : ℕ → ℕ → ℕ
@@ -39,9 +38,9 @@ sqrtOf mode f (inf s) = cond s nan (inf s)
 sqrtOf mode f (fin s zero e) = fin s zero e
 sqrtOf mode f (fin s (suc m) e) = cond s nan (rootOf mode f (suc m * up e) (down e))
 
--- rounded to nearest even, and stored as a result is
+-- rounded by the mode, and stored as a result is
 unfoldable pub squareRoot : Format → ℕ → ℕ → ℕ
-squareRoot f control m = flush f control (toBits f (sqrtOf Nearest f (ofBits f m)))
+squareRoot f control m = flush f control (toBits f (sqrtOf (roundingOf control) f (ofBits f m)))
 
 -- a root's digits and what is left, of a number n
 pub record IsRoot (n root rest : ℕ) : Type 0 where
@@ -58,10 +57,17 @@ pub record IsRooted (mode : Rounding) (n steps kept : ℕ) (exact : Bool) : Type
 abbrev pub radicand : ℕ → ℕ
 radicand y = cond (ltb y (2 ^ 52)) (y * 2 + 2 ^ 53) y
 
--- the root of n to the nearest whole number, or 0 where it was not found
-pub record IsNearestRoot (n most r : ℕ) : Type 0 where
-  pub is : 0 < r → r ≡ rootCut Nearest n 1
+-- the root of n as a whole number
+pub record IsRoundedRoot (mode : Rounding) (n most r : ℕ) : Type 0 where
+  pub is : r ≡ rootCut mode n 1
   pub below : r ≤ most
+
+-- an estimate of the root of n, with what is left of n, where it is near: then the root is below q + 3
+pub record IsEstimate (n most q rest : ℕ) (near : Bool) : Type 0 where
+  pub small : q < 2 ^ 60
+  pub sum : near ≡ true → q * q + rest ≡ n
+  pub room : near ≡ true → rest ≤ 5 * q + 6
+  pub below : near ≡ true → q < most
 
 -- ---- what a reader believes at sight: r is no further than a half from the root of n / u, and even where it is just a half away
 abbrev pub NearRoot : ℕ → ℕ → ℕ → Type 0

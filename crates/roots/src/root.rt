@@ -1,12 +1,14 @@
 // Square roots on whole numbers: by an estimate that is checked, or a binary digit at a time.
 ghost use mathlib.Core.Path.{_≡_};
 ghost use mathlib.Core.Bool.{cond};
-ghost use Prim.Native.Nat.{ℕ, _+_, _*_, _/_, _%_, _≤_, _<_, _^_};
+ghost use Prim.Native.Nat.{_+_, _*_, _/_, _%_, _≤_, _<_, _^_};
 ghost use lib.Ieee.{binary32, binary64, ofBits, toBits};
-ghost use Rattle.roots.specs.Root.{IsRoot, IsRooted, IsNearestRoot, radicand, sqrtOf, squareRoot};
+ghost use Rattle.rounding.specs.declared.rounding.Rounding.the-variants.{Nearest, Up, Zero};
+ghost use Rattle.roots.specs.Root.{IsRoot, IsRooted, IsRoundedRoot, IsEstimate, radicand, sqrtOf, squareRoot};
 use rounding::lift::lift;
 use rounding::rounding::Rounded;
 use rounding::rounding::Rounding;
+use rounding::rounding::rounding_of;
 use rounding::rounding::step;
 use std::num::wrapping_sub_u64;
 
@@ -185,77 +187,148 @@ fn one_if(more: bool) -> u64
 // The whole number nearest to the root of q * q + rest, where it is q or one of the next two. No branch: which of them it is follows no pattern.
 fn nearest_root(q: u64, rest: u64) -> u64
     requires { ⌜ (q < 2 ^ 60) × (rest ≤ 5 * q + 6) ⌝ }
-    ensures { λ r. ⌜ IsNearestRoot (q * q + rest) (q + 2) r ⌝ }
+    ensures { λ r. ⌜ IsRoundedRoot Nearest (q * q + rest) (q + 3) r ⌝ }
 {
     q + one_if(q < rest) + one_if(3 * q + 2 < rest)
 }
 
-// The root of 24 digits, rounded to nearest, or 0 where the estimate is too far off.
-fn nearest24(y: u64) -> u64
-    requires { ⌜ y < 2 ^ 53 ⌝ }
-    ensures { λ r. ⌜ IsNearestRoot (radicand y / 64) (2 ^ 24 + 1) r ⌝ }
+// The last one not above the root: q and the steps that the rest has room for. Upwards one more where something is left of it.
+fn directed_root(up: bool, q: u64, rest: u64) -> u64
+    requires { ⌜ (q < 2 ^ 60) × (rest ≤ 5 * q + 6) ⌝ }
+    ensures { λ r. ⌜ IsRoundedRoot (cond up Up Zero) (q * q + rest) (q + 3) r ⌝ }
 {
-    let x = radicand(y);
-    let top = x / 0x40_0000;
-    let q = top * inverse(y, top) / 0x40_0000_0000;
+    let steps = one_if(2 * q < rest) + one_if(4 * q + 3 < rest);
+    q + steps + one_if(up & (steps * (2 * q + steps) < rest))
+}
+
+// An estimate of a root, what its square leaves, and whether that is little enough.
+struct Estimate {
+    pub root: u64,
+    pub rest: u64,
+    pub near: bool,
+}
+
+// Of 24 digits, from a radicand and the inverse of its root.
+fn estimate24(x: u64, n: u64) -> Estimate
+    requires { ⌜ (x < 2 ^ 54) × (n < 2 ^ 32) ⌝ }
+    ensures { λ r. ⌜ IsEstimate (x / 64) (2 ^ 24) (r .root) (r .rest) (r .near) ⌝ }
+{
+    let q = x / 0x40_0000 * n / 0x40_0000_0000;
     let rest = wrapping_sub_u64(x / 64, q * q);
-    if rest <= 5 * q + 6 {
-        return nearest_root(q, rest);
+    Estimate {
+        root: q,
+        rest,
+        near: rest <= 5 * q + 6,
     }
-    0
 }
 
 // The same of 53 digits: the first 27, h, and 26 more, l, from what h's square leaves. What is left is made in steps of 26 digits, each of which has to
 // be small, so that none is cut.
-fn nearest53(y: u64) -> u64
-    requires { ⌜ y < 2 ^ 53 ⌝ }
-    ensures { λ r. ⌜ IsNearestRoot (radicand y * 2 ^ 52) (2 ^ 53 + 1) r ⌝ }
+fn estimate53(x: u64, n: u64) -> Estimate
+    requires { ⌜ (x < 2 ^ 54) × (n < 2 ^ 32) ⌝ }
+    ensures { λ r. ⌜ IsEstimate (x * 2 ^ 52) (2 ^ 53) (r .root) (r .rest) (r .near) ⌝ }
 {
-    let x = radicand(y);
-    let top = x / 0x40_0000;
-    let n = inverse(y, top);
-    let h = top * n / 0x8_0000_0000;
+    let h = x / 0x40_0000 * n / 0x8_0000_0000;
     let a = wrapping_sub_u64(x, h * h);
     let l = a % 0x1_0000_0000 * n / 0x1_0000_0000;
     let b = wrapping_sub_u64(a % 0x40_0000_0000 * 0x400_0000, 2 * h * l);
     let rest = wrapping_sub_u64(b % 0x40_0000_0000 * 0x400_0000, l * l);
     let q = h * 0x400_0000 + l;
-    if (a < 0x8000_0000) & (b < 0x8000_0000) {
-        if rest <= 5 * q + 6 {
-            return nearest_root(q, rest);
+    Estimate {
+        root: q,
+        rest,
+        near: (a < 0x8000_0000) & (b < 0x8000_0000) & (rest <= 5 * q + 6),
+    }
+}
+
+// The word of a normal single's root, from its digits: half of the exponent, and the digits below it.
+fn placed32(w: u64, kept: u64) -> u32
+    requires { ⌜ (w < 0x7F80_0000) × (kept ≤ 2 ^ 24 + 2) ⌝ }
+    ensures { λ r. ⌜ r ≡ (w / 0x80_0000 + w / 0x80_0000 % 2 + 124) * 0x40_0000 + kept ⌝ }
+{
+    let field = w / 0x80_0000;
+    ((field + field % 2 + 124) * 0x40_0000 + kept) as u32
+}
+
+fn placed64(m: u64, kept: u64) -> u64
+    requires { ⌜ (m < 0x7FF0_0000_0000_0000) × (kept ≤ 2 ^ 53 + 2) ⌝ }
+    ensures { λ r. ⌜ r ≡ (m / 0x10_0000_0000_0000 + m / 0x10_0000_0000_0000 % 2 + 1020) * 0x8_0000_0000_0000 + kept ⌝ }
+{
+    let field = m / 0x10_0000_0000_0000;
+    (field + field % 2 + 1020) * 0x8_0000_0000_0000 + kept
+}
+
+// The root of a normal value to nearest, by an estimate that is checked, or 0 where that is too far off, or the value is not normal.
+pub fn quick_root32(m: u32) -> u32
+    ensures { λ r. ⌜ (0 < r → r ≡ toBits binary32 (sqrtOf Nearest binary32 (ofBits binary32 m))) ⌝ }
+{
+    let w = m as u64;
+    if w >= 0x80_0000 {
+        if w < 0x7F80_0000 {
+            let y = w % 0x100_0000 * 0x2000_0000;
+            let x = radicand(y);
+            let e = estimate24(x, inverse(y, x / 0x40_0000));
+            if e.near {
+                return placed32(w, nearest_root(e.root, e.rest));
+            }
         }
     }
     0
 }
 
-// The control word changes no root: one is never subnormal. A normal value's root is an estimate that is checked, all else goes digit by digit.
-pub fn square_root32(m: u32) -> u32
-    ensures { λ r. ⌜ ((control : ℕ) → r ≡ squareRoot binary32 control m) ⌝ }
-{
-    let w = m as u64;
-    if w >= 0x80_0000 {
-        if w < 0x7F80_0000 {
-            let kept = nearest24(w % 0x100_0000 * 0x2000_0000);
-            if kept > 0 {
-                let field = w / 0x80_0000;
-                return ((field + field % 2 + 124) * 0x40_0000 + kept) as u32;
-            }
-        }
-    }
-    root32(Rounding::Nearest, m)
-}
-
-pub fn square_root64(m: u64) -> u64
-    ensures { λ r. ⌜ ((control : ℕ) → r ≡ squareRoot binary64 control m) ⌝ }
+pub fn quick_root64(m: u64) -> u64
+    ensures { λ r. ⌜ (0 < r → r ≡ toBits binary64 (sqrtOf Nearest binary64 (ofBits binary64 m))) ⌝ }
 {
     if m >= 0x10_0000_0000_0000 {
         if m < 0x7FF0_0000_0000_0000 {
-            let kept = nearest53(m % 0x20_0000_0000_0000);
-            if kept > 0 {
-                let field = m / 0x10_0000_0000_0000;
-                return (field + field % 2 + 1020) * 0x8_0000_0000_0000 + kept;
+            let y = m % 0x20_0000_0000_0000;
+            let x = radicand(y);
+            let e = estimate53(x, inverse(y, x / 0x40_0000));
+            if e.near {
+                return placed64(m, nearest_root(e.root, e.rest));
             }
         }
     }
-    root64(Rounding::Nearest, m)
+    0
+}
+
+// The root in every mode: of a normal value by an estimate in the modes that `quick_root32` does not have, all else digit by digit. The control word gives
+// the mode alone: a root is never subnormal.
+pub fn square_root32(control: u32, m: u32) -> u32
+    ensures { λ r. ⌜ r ≡ squareRoot binary32 control m ⌝ }
+{
+    let w = m as u64;
+    let mode = control / 0x40_0000 % 4;
+    if mode > 0 {
+        if w >= 0x80_0000 {
+            if w < 0x7F80_0000 {
+                let y = w % 0x100_0000 * 0x2000_0000;
+                let x = radicand(y);
+                let e = estimate24(x, inverse(y, x / 0x40_0000));
+                if e.near {
+                    return placed32(w, directed_root(mode == 1, e.root, e.rest));
+                }
+            }
+        }
+    }
+    root32(rounding_of(control), m)
+}
+
+pub fn square_root64(control: u32, m: u64) -> u64
+    ensures { λ r. ⌜ r ≡ squareRoot binary64 control m ⌝ }
+{
+    let mode = control / 0x40_0000 % 4;
+    if mode > 0 {
+        if m >= 0x10_0000_0000_0000 {
+            if m < 0x7FF0_0000_0000_0000 {
+                let y = m % 0x20_0000_0000_0000;
+                let x = radicand(y);
+                let e = estimate53(x, inverse(y, x / 0x40_0000));
+                if e.near {
+                    return placed64(m, directed_root(mode == 1, e.root, e.rest));
+                }
+            }
+        }
+    }
+    root64(rounding_of(control), m)
 }

@@ -43,6 +43,13 @@ nine thumb f w (suc (suc (suc (suc (suc (suc (suc (suc (suc (suc n)))))))))) h g
 pub in-control : (fpscr : ℕ) → fpscr / 2 ^ 16 % 8 ≡ 0 → fpscr % 2 ^ 28 / 2 ^ 16 % 8 ≡ 0
 in-control fpscr h = omega arith
 
+-- and so do FZ and the mode
+pub in-control-24 : (fpscr : ℕ) → fpscr / 2 ^ 22 % 8 ≡ 0 → fpscr % 2 ^ 28 / 2 ^ 22 % 8 ≡ 0
+in-control-24 fpscr h = omega arith
+
+pub in-control-mode : (fpscr : ℕ) → fpscr / 2 ^ 22 % 4 ≡ 0 → fpscr % 2 ^ 28 / 2 ^ 22 % 4 ≡ 0
+in-control-mode fpscr h = omega arith
+
 module _ (f : Format) (w : ℕ) (s : List ℕ) (fpscr : ℕ) (s′ : List ℕ) (scalar : fpscr / 2 ^ 16 % 8 ≡ 0) where
   pub scalar-done : (n : ℕ) → 0 < n → n < 10 → {d a b : ℕ} {k : Arithmetic} → k ≡ arithmeticOf (operationNumbered n) → d ≡ regD f w → a ≡ regN f w → b ≡ regM f w
       → Stepped (arithmeticStep f (fpscr % 2 ^ 28) k d a b) s s′ → Handled (namedTree f w (operationNumbered n)) w s fpscr s′ (Done fpscr)

@@ -5,8 +5,12 @@ ghost use lib.Ieee.{binary32, binary64};
 ghost use Rattle.decoding.specs.Operation.{operationNumbered};
 ghost use Rattle.processing.specs.Data.{Handled, namedTree};
 ghost use Rattle.processing.specs.declared.Processed.the-variants.{Done};
-use arithmetic_steps::arithmetic::arithmetic_double;
-use arithmetic_steps::arithmetic::arithmetic_single;
+use arithmetic_steps::arithmetic::native_double;
+use arithmetic_steps::arithmetic::native_single;
+use arithmetic_steps::arithmetic::rounded_double;
+use arithmetic_steps::arithmetic::rounded_single;
+use arithmetic_steps::arithmetic::unflushed_double;
+use arithmetic_steps::arithmetic::unflushed_single;
 use decoding::fields::double_d;
 use decoding::fields::double_m;
 use decoding::fields::double_n;
@@ -21,14 +25,18 @@ pub fn scalar_single(s: &mut [u32; 32], fpscr: u32, number: u8, op: u32)
     ensures { λ _. ⌜ Handled (namedTree binary32 op (operationNumbered number)) op (now (s .entry)) fpscr (now (s .exit)) (Done fpscr) ⌝ }
 {
     let kind = arithmetic_of(numbered(number));
-    arithmetic_single(
-        s,
-        fpscr % 0x1000_0000,
-        kind,
-        single_d(op),
-        single_n(op),
-        single_m(op),
-    );
+    let d = single_d(op);
+    let n = single_n(op);
+    let m = single_m(op);
+    if fpscr / 0x40_0000 % 8 == 0 {
+        unflushed_single(s, kind, d, n, m);
+        return;
+    }
+    if fpscr / 0x40_0000 % 4 == 0 {
+        native_single(s, fpscr % 0x1000_0000, kind, d, n, m);
+        return;
+    }
+    rounded_single(s, fpscr % 0x1000_0000, kind, d, n, m);
 }
 
 pub fn scalar_double(s: &mut [u32; 32], fpscr: u32, number: u8, op: u32)
@@ -36,12 +44,16 @@ pub fn scalar_double(s: &mut [u32; 32], fpscr: u32, number: u8, op: u32)
     ensures { λ _. ⌜ Handled (namedTree binary64 op (operationNumbered number)) op (now (s .entry)) fpscr (now (s .exit)) (Done fpscr) ⌝ }
 {
     let kind = arithmetic_of(numbered(number));
-    arithmetic_double(
-        s,
-        fpscr % 0x1000_0000,
-        kind,
-        double_d(op),
-        double_n(op),
-        double_m(op),
-    );
+    let d = double_d(op);
+    let n = double_n(op);
+    let m = double_m(op);
+    if fpscr / 0x40_0000 % 8 == 0 {
+        unflushed_double(s, kind, d, n, m);
+        return;
+    }
+    if fpscr / 0x40_0000 % 4 == 0 {
+        native_double(s, fpscr % 0x1000_0000, kind, d, n, m);
+        return;
+    }
+    rounded_double(s, fpscr % 0x1000_0000, kind, d, n, m);
 }

@@ -1,6 +1,10 @@
-// Square roots. They are never subnormal, so that flushing would change none.
-ghost use Prim.Native.Nat.{ℕ, _<_};
+// Square roots, rounded by the mode of the control word. They are never subnormal, so that flushing would change none.
+ghost use mathlib.Core.Path.{_≡_};
+ghost use Prim.Native.Nat.{_/_, _%_, _<_, _^_};
+ghost use lib.ListN.{set};
 ghost use lib.Ieee.{binary32, binary64};
+ghost use Rattle.machine.specs.Registers.{singleIndex, lowIndex, highIndex};
+ghost use Rattle.roots.specs.Root.{squareRoot};
 ghost use Rattle.short_vectors.specs.Vector.{iterationsOf, monadicStep};
 ghost use Rattle.short_vectors.specs.Register.{Stepped, Iterated};
 ghost use Rattle.steps.specs.Root.{rootStep};
@@ -10,22 +14,57 @@ use machine::registers::get_double;
 use machine::registers::get_single;
 use machine::registers::set_double;
 use machine::registers::set_single;
+use roots::root::quick_root32;
+use roots::root::quick_root64;
 use roots::root::square_root32;
 use roots::root::square_root64;
 use short_vectors::vector::Vector;
 
-pub fn root_single(s: &mut [u32; 32], d: Single, m: Single)
-    ensures { λ _. ⌜ ((control : ℕ) → Stepped (rootStep binary32 control (d .0) (m .0)) (now (s .entry)) (now (s .exit))) ⌝ }
+// A root in every mode, and its store: apart, so that mode 00's quick path calls nothing on its way.
+fn store_root_single(s: &mut [u32; 32], control: u32, d: Single, b: u32)
+    ensures { λ _. ⌜ now (s .exit) ≡ set (now (s .entry)) (singleIndex (d .0)) (squareRoot binary32 control b) ⌝ }
 {
-    let x = square_root32(get_single(s, m));
+    let x = square_root32(control, b);
     set_single(s, d, x);
 }
 
-pub fn root_double(s: &mut [u32; 32], d: Double, m: Double)
-    ensures { λ _. ⌜ ((control : ℕ) → Stepped (rootStep binary64 control (d .0) (m .0)) (now (s .entry)) (now (s .exit))) ⌝ }
+pub fn root_single(s: &mut [u32; 32], control: u32, d: Single, m: Single)
+    ensures { λ _. ⌜ Stepped (rootStep binary32 control (d .0) (m .0)) (now (s .entry)) (now (s .exit)) ⌝ }
 {
-    let x = square_root64(get_double(s, m));
+    let b = get_single(s, m);
+    if control / 0x40_0000 % 4 == 0 {
+        let x = quick_root32(b);
+        if x > 0 {
+            set_single(s, d, x);
+            return;
+        }
+        store_root_single(s, 0, d, b);
+        return;
+    }
+    store_root_single(s, control, d, b);
+}
+
+fn store_root_double(s: &mut [u32; 32], control: u32, d: Double, b: u64)
+    ensures { λ _. ⌜ now (s .exit) ≡ set (set (now (s .entry)) (lowIndex (d .0)) (squareRoot binary64 control b % 2 ^ 32)) (highIndex (d .0)) (squareRoot binary64 control b / 2 ^ 32) ⌝ }
+{
+    let x = square_root64(control, b);
     set_double(s, d, x);
+}
+
+pub fn root_double(s: &mut [u32; 32], control: u32, d: Double, m: Double)
+    ensures { λ _. ⌜ Stepped (rootStep binary64 control (d .0) (m .0)) (now (s .entry)) (now (s .exit)) ⌝ }
+{
+    let b = get_double(s, m);
+    if control / 0x40_0000 % 4 == 0 {
+        let x = quick_root64(b);
+        if x > 0 {
+            set_double(s, d, x);
+            return;
+        }
+        store_root_double(s, 0, d, b);
+        return;
+    }
+    store_root_double(s, control, d, b);
 }
 
 pub fn root_singles(s: &mut [u32; 32], control: u32, d: Single, m: Single)
@@ -38,7 +77,7 @@ pub fn root_singles(s: &mut [u32; 32], control: u32, d: Single, m: Single)
     let mut mn = m.0;
     let mut i: usize = 0;
     loop {
-        root_single(s, Single(dn), Single(mn));
+        root_single(s, control, Single(dn), Single(mn));
         i += 1;
         if i >= count {
             return;
@@ -58,7 +97,7 @@ pub fn root_doubles(s: &mut [u32; 32], control: u32, d: Double, m: Double)
     let mut mn = m.0;
     let mut i: usize = 0;
     loop {
-        root_double(s, Double(dn), Double(mn));
+        root_double(s, control, Double(dn), Double(mn));
         i += 1;
         if i >= count {
             return;

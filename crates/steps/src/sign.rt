@@ -75,19 +75,20 @@ pub fn sign_singles(s: &mut [u32; 32], control: u32, sign: SignOperation, d: Sin
     }
 }
 
+// The loop counts the registers that it goes on, so that the compiler does not take it apart.
 pub fn sign_doubles(s: &mut [u32; 32], control: u32, sign: SignOperation, d: Double, m: Double)
     requires { ⌜ (d .0 < 32) × (m .0 < 32) ⌝ }
     ensures { λ _. ⌜ Iterated (iterationsOf binary64 control (d .0)) (monadicStep binary64 control (signStep binary64 sign) (d .0) (m .0)) (now (s .entry)) (now (s .exit)) ⌝ }
 {
     let vector = Vector::new(control, true, d.0);
-    let count = vector.iterations;
+    let end = vector.iterations * vector.stride;
     let mut dn = d.0;
     let mut mn = m.0;
-    let mut i: usize = 0;
+    let mut far: usize = 0;
     loop {
         sign_double(s, sign, Double(dn), Double(mn));
-        i += 1;
-        if i >= count {
+        far += vector.stride;
+        if far >= end {
             return;
         }
         dn = vector.step(dn, 1);

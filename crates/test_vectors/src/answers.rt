@@ -1,11 +1,11 @@
-// The functions of `numbers` by number, on words of up to 64 bits.
+// The functions on numbers by number, on words of up to 64 bits.
+use directed::arithmetic::arithmetic32;
+use directed::arithmetic::arithmetic64;
 use integers::integer::from_integer32;
 use integers::integer::from_integer64;
 use integers::integer::to_integer32;
 use integers::integer::to_integer64;
 use numbers::arithmetic::Arithmetic;
-use numbers::arithmetic::arithmetic32;
-use numbers::arithmetic::arithmetic64;
 use numbers::compare::compare32;
 use numbers::compare::compare64;
 use roots::root::square_root32;
@@ -55,11 +55,11 @@ fn single(w: Work) -> u64 {
     let a = low(w.n);
     let op = w.op;
     match op {
-        0x20 => wide(square_root32(a)),
+        0x20 => wide(square_root32(w.control, a)),
         0x21 => wide(compare32(a, low(w.m))),
         0x22 => widen(a),
-        0x23 => wide(from_integer32(true, a)),
-        0x24 => wide(from_integer32(false, a)),
+        0x23 => wide(from_integer32(w.control, true, a)),
+        0x24 => wide(from_integer32(w.control, false, a)),
         0x25 => wide(to_integer32(rounding_of(w.control), true, a)),
         0x26 => wide(to_integer32(rounding_of(w.control), false, a)),
         0x27 => flag(compare32(a, low(w.m)), 0b0110),
@@ -72,7 +72,7 @@ fn double(w: Work) -> u64 {
     let a = w.n;
     let op = w.op;
     match op {
-        0x30 => square_root64(a),
+        0x30 => square_root64(w.control, a),
         0x31 => wide(compare64(a, w.m)),
         0x32 => wide(narrow(w.control, a)),
         0x33 => from_integer64(true, low(a)),

@@ -352,9 +352,17 @@ fn widths(t: Tally) -> Tally {
     )
 }
 
+// What an integer as a float needs beside itself: a single is rounded by the mode, a double is exact.
+fn mode_of(double: bool) -> u64 {
+    if double {
+        return 0;
+    }
+    place(CONTROL)
+}
+
 // From an integer, to one by the mode, and to one truncating.
 fn integers(t: Tally, double: bool) -> Tally {
-    let from = one(0, place(17), d(double, 0));
+    let from = one(0, place(17) | mode_of(double), d(double, 0));
     let mode = one(0, m(double, 0) | place(CONTROL), place(10));
     let zero = one(0, m(double, 0), place(10));
     let a = case(t, extension_word(8, 0, double), 0, from);

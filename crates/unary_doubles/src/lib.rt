@@ -39,7 +39,7 @@ pub fn unary_double(s: &mut [u32; 32], fpscr: u32, op: u32, o: Operation) -> u32
             fpscr
         }
         Operation::Fsqrt => {
-            root_double(s, double_d(op), double_m(op));
+            root_double(s, fpscr % 0x1000_0000, double_d(op), double_m(op));
             fpscr
         }
         Operation::Fcmp | Operation::Fcmpe => compare_double(s, fpscr, double_d(op), double_m(op)),

@@ -38,7 +38,7 @@ pub fn unary_single(s: &mut [u32; 32], fpscr: u32, op: u32, o: Operation) -> u32
             fpscr
         }
         Operation::Fsqrt => {
-            root_single(s, single_d(op), single_m(op));
+            root_single(s, fpscr % 0x1000_0000, single_d(op), single_m(op));
             fpscr
         }
         Operation::Fcmp | Operation::Fcmpe => compare_single(s, fpscr, single_d(op), single_m(op)),
@@ -48,11 +48,11 @@ pub fn unary_single(s: &mut [u32; 32], fpscr: u32, op: u32, o: Operation) -> u32
             fpscr
         }
         Operation::Fuito => {
-            from_integer_single(s, false, single_d(op), single_m(op));
+            from_integer_single(s, fpscr, false, single_d(op), single_m(op));
             fpscr
         }
         Operation::Fsito => {
-            from_integer_single(s, true, single_d(op), single_m(op));
+            from_integer_single(s, fpscr, true, single_d(op), single_m(op));
             fpscr
         }
         Operation::Ftoui => {

@@ -49,7 +49,7 @@ pub fn watch_double(s: &mut [u32; 32], marks: u64, fpscr: u32, op: u32, o: Opera
             after(fpscr, mark_sign(marks, true, op))
         }
         Operation::Fsqrt => {
-            root_double(s, double_d(op), double_m(op));
+            root_double(s, fpscr % 0x1000_0000, double_d(op), double_m(op));
             after(fpscr, mark_root(marks, true, op))
         }
         Operation::Fcmp | Operation::Fcmpe => {

@@ -48,7 +48,7 @@ pub fn watch_single(s: &mut [u32; 32], marks: u64, fpscr: u32, op: u32, o: Opera
             after(fpscr, mark_sign(marks, false, op))
         }
         Operation::Fsqrt => {
-            root_single(s, single_d(op), single_m(op));
+            root_single(s, fpscr % 0x1000_0000, single_d(op), single_m(op));
             after(fpscr, mark_root(marks, false, op))
         }
         Operation::Fcmp | Operation::Fcmpe => {
@@ -64,11 +64,11 @@ pub fn watch_single(s: &mut [u32; 32], marks: u64, fpscr: u32, op: u32, o: Opera
             after(fpscr, mark_convert(marks, false, op))
         }
         Operation::Fuito => {
-            from_integer_single(s, false, single_d(op), single_m(op));
+            from_integer_single(s, fpscr, false, single_d(op), single_m(op));
             after(fpscr, mark_from_integer(marks, false, op))
         }
         Operation::Fsito => {
-            from_integer_single(s, true, single_d(op), single_m(op));
+            from_integer_single(s, fpscr, true, single_d(op), single_m(op));
             after(fpscr, mark_from_integer(marks, false, op))
         }
         Operation::Ftoui => {

@@ -10,9 +10,8 @@ use lib.Ieee.{Float, nan, inf, fin, binary32, binary64, up, down, ofBits, toBits
 use lib.Ieee.Bits.{toBits-lt, ofBits-fits}
 use lib.Ieee.Fits.{fits-widens, down-pos}
 use Rattle.floats.specs.Flush.{flush}
-use Rattle.rounding.specs.Rounding.{rounded}
+use Rattle.rounding.specs.Rounding.{roundingOf, rounded}
 use Rattle.rounding.specs.Lift.{Lifted}
-use Rattle.rounding.specs.declared.rounding.Rounding.the-variants.{Nearest}
 use Rattle.floats.proofs.Flushing.{NotSubnormal, flush-none, flush-lt}
 use Rattle.packing.proofs.Formed.{rounded-lt}
 use Rattle.rounding.proofs.Lifting.{moved-is, lifted}
@@ -26,10 +25,10 @@ pub narrow-lt : (control b : ℕ) → narrow control b < 2 ^ 32
 unfolding narrow narrowed
 narrow-lt control b = flush-lt binary32 control _ (go (ofBits binary64 b))
   where
-    go : (v : Float) → toBits binary32 (narrowed Nearest binary32 v) < 2 ^ 32
+    go : (v : Float) → toBits binary32 (narrowed (roundingOf control) binary32 v) < 2 ^ 32
     go nan = nan-word binary32 .0
     go (inf s) = inf-word binary32 s .0
-    go (fin s m e) = rounded-lt Nearest binary32 s (m * up e) (down e) (down-pos e)
+    go (fin s m e) = rounded-lt (roundingOf control) binary32 s (m * up e) (down e) (down-pos e)
 
 -- ---- widening
 

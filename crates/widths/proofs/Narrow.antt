@@ -2,24 +2,25 @@
 use mathlib.Core.Path.{_≡_, refl, sym, ap, _∙_, subst}
 use mathlib.Core.Logic.{inr}
 use mathlib.Core.Bool.{Bool, true, false, cond}
-use Prim.Native.Nat.{ℕ, _+_, _-_, _*_, _/_, _%_, _^_, _≤_, _<_, min}
-use native.Mathlib.Nat.{le-trans, le-of-eq, mul-assoc, min-eq-left}
+use Prim.Native.Nat.{ℕ, _+_, _-_, _*_, _/_, _%_, _^_, _≤_, _<_, min, Ordering}
+use native.Mathlib.Nat.{le-trans, le-of-eq, mul-assoc, min-eq-left, mod-lt, div-div-eq-div-mul}
+use native.Mathlib.Decide.{decLt}
 use native.Mathlib.Omega.{arith}
 use lib.Dec.{leb, lit<}
 use lib.Pow.{pow-add, pow-pos}
 use lib.Ieee.{Float, nan, inf, fin, Format, binary32, binary64, up, down, hid, ones, top, ofBits, toBits}
-use lib.Ieee.Fits.{down-pos}
+use lib.Ieee.Fits.{down-pos, nearest-le}
 use lib.Ieee.Exact.{HasValue}
 use Rattle.floats.specs.Flush.{flush}
-use Rattle.rounding.specs.Rounding.{rounded, exact, over, tiny, cutTo, IsCut}
-use Rattle.packing.specs.Pack.{packed, IsSettled}
+use Rattle.rounding.specs.Rounding.{roundingOf, rounded, exact, over, tiny, move, cutTo, increment}
+use Rattle.packing.specs.Pack.{ceiling, packed, IsSettled}
 use Rattle.widths.specs.Convert.{narrowed, onFinite, narrow, IsNarrowed}
 use Rattle.rounding.specs.declared.rounding.Rounding.{Rounding}
-use Rattle.rounding.specs.declared.rounding.Rounding.the-variants.{Nearest}
+use Rattle.rounding.specs.declared.rounding.Rounding.the-variants.{Nearest, Up, Down, Zero}
 use Rattle.floats.proofs.Units.{slide, sign-bit, reads-low, reads-normal, reads-inf}
 use Rattle.floats.proofs.Patterns.{nan-of-fields}
-use Rattle.packing.proofs.Written.{rounded-bits, rounded-same, exact-same, over-same, tiny-same}
-use Rattle.rounding.proofs.Cutting.{cut-ge, cut-le, cut-by-sum}
+use Rattle.packing.proofs.Written.{ceiling-le, rounded-bits, rounded-same, exact-same, over-same, tiny-same}
+use Rattle.rounding.proofs.Cutting.{mode-up, mode-down, mode-zero, move-le, cut-ge, cut-by-sum}
 use Rattle.floats.proofs.Flushing.{flush-large}
 use Rattle.packing.proofs.Settle.{settled-same}
 
@@ -100,55 +101,142 @@ narrow-mid mode f b bits x o t n l p =
 
 -- ---- flushed as a single
 
-pub narrow-is : (control b bits r : ℕ) → bits ≡ toBits binary32 (narrowed Nearest binary32 (ofBits binary64 b)) → r ≡ flush binary32 control bits → r ≡ narrow control b
+pub narrow-is : (control : ℕ) (mode : Rounding) (b bits r : ℕ) → mode ≡ roundingOf control → bits ≡ toBits binary32 (narrowed mode binary32 (ofBits binary64 b)) → r ≡ flush binary32 control bits
+    → r ≡ narrow control b
 unfolding narrow
-narrow-is control b bits r p e = e ∙ ap (flush binary32 control) p
+narrow-is control mode b bits r g p e = e ∙ ap (flush binary32 control) (p ∙ ap (λ (z : Rounding). toBits binary32 (narrowed z binary32 (ofBits binary64 b))) g)
 
 -- ---- a normal single, or what is too large for one, from the double's pattern as it stands
 
-module _ (X kept : ℕ) (t : Bool) (p : IsCut Nearest false X (2 ^ 29) kept t) where
-  pub kept-most : X < 0x0FF0_0000_0000_0000 → kept ≤ 0x7F80_0000
-  kept-most h = le-trans (le-of-eq (p .kept-is)) (le-trans (cut-le Nearest false X (2 ^ 29)) (high X h))
+before : (q n : ℕ) → q < n → q ≤ n - 1
+before q n h = omega arith
+
+-- what is cut from less than the infinity's pattern is no more than the mode gives
+under-ceiling : (mode : Rounding) (f : Format) (s : Bool) (q : ℕ) (o : Ordering) (x : Bool) → q < ones f * hid f → move mode s q o x ≤ ceiling mode f s
+under-ceiling Nearest f s q o x h = le-trans (nearest-le q o) h
+under-ceiling Up f true q o x h = before q (ones f * hid f) h
+under-ceiling Up f false q o x h = le-trans (move-le Up false q o x) h
+under-ceiling Down f true q o x h = le-trans (move-le Down true q o x) h
+under-ceiling Down f false q o x h = before q (ones f * hid f) h
+under-ceiling Zero f s q o x h = before q (ones f * hid f) h
+
+-- what carries depends on the last digit that is kept alone
+increment-same : (mode : Rounding) (s : Bool) (a b u : ℕ) → a / u % 2 ≡ b / u % 2 → increment mode s a u ≡ increment mode s b u
+increment-same Nearest s a b u e = ap (λ (z : ℕ). u / 2 - 1 + z) e
+increment-same Up s a b u e = refl
+increment-same Down s a b u e = refl
+increment-same Zero s a b u e = refl
+
+-- the increment of a mode other than 00, by its two bits
+module _ (control m : ℕ) (o : control / 2 ^ 22 % 4 ≡ 0 → ⊥) where
+  at : (mode : Rounding) (s : Bool) (r : ℕ) → mode ≡ roundingOf control → r ≡ increment mode s m (2 ^ 29) → r ≡ increment (roundingOf control) s m (2 ^ 29)
+  at mode s r e p = p ∙ ap (λ (z : Rounding). increment z s m (2 ^ 29)) e
+
+  pub below-away : control / 2 ^ 22 % 2 ≡ 0 → 0x1FFF_FFFF ≡ increment (roundingOf control) true m (2 ^ 29)
+  below-away z = at Down true 0x1FFF_FFFF (mode-down control o (λ e. omega arith) (omega arith)) refl
+
+  -- bit 23 is the mode's upper one
+  upper : control / 2 ^ 23 % 2 ≡ control / 2 ^ 22 % 4 / 2
+  upper = ap (λ (z : ℕ). z % 2) (sym (div-div-eq-div-mul control (2 ^ 22) 2)) ∙ go (control / 2 ^ 22)
+    where
+      go : (q : ℕ) → q / 2 % 2 ≡ q % 4 / 2
+      go q = omega arith
+
+  pub above-away : control / 2 ^ 23 % 2 ≡ 0 → 0x1FFF_FFFF ≡ increment (roundingOf control) false m (2 ^ 29)
+  above-away z = at Up false 0x1FFF_FFFF (mode-up control o (only (control / 2 ^ 22 % 4) (mod-lt (control / 2 ^ 22) (lit< tt)) o (sym upper ∙ z))) refl
+    where
+      only : (x : ℕ) → x < 4 → (x ≡ 0 → ⊥) → x / 2 ≡ 0 → x ≡ 1
+      only x l n z = omega arith
+
+  pub below-kept : (control / 2 ^ 22 % 2 ≡ 0 → ⊥) → 0 ≡ increment (roundingOf control) true m (2 ^ 29)
+  below-kept n = go (decLt (control / 2 ^ 22 % 4) 3)
+    where
+      go : Dec (control / 2 ^ 22 % 4 < 3) → 0 ≡ increment (roundingOf control) true m (2 ^ 29)
+      go (yes l) = at Up true 0 (mode-up control o (omega arith)) refl
+      go (no k) = at Zero true 0 (mode-zero control o (λ e. omega arith) (λ e. omega arith)) refl
+
+  pub above-kept : (control / 2 ^ 23 % 2 ≡ 0 → ⊥) → 0 ≡ increment (roundingOf control) false m (2 ^ 29)
+  above-kept n = go (decLt (control / 2 ^ 22 % 4) 3)
+    where
+      high : (x : ℕ) → (x / 2 ≡ 0 → ⊥) → (x ≡ 1 → ⊥) × (x < 3 → x ≡ 2) × ((x < 3 → ⊥) → x ≡ 2 → ⊥)
+      high x n = (λ e. omega arith, λ l. omega arith, λ l e. omega arith)
+
+      is : (control / 2 ^ 22 % 4 ≡ 1 → ⊥) × (control / 2 ^ 22 % 4 < 3 → control / 2 ^ 22 % 4 ≡ 2) × ((control / 2 ^ 22 % 4 < 3 → ⊥) → control / 2 ^ 22 % 4 ≡ 2 → ⊥)
+      is = high (control / 2 ^ 22 % 4) (λ e. n (upper ∙ e))
+
+      go : Dec (control / 2 ^ 22 % 4 < 3) → 0 ≡ increment (roundingOf control) false m (2 ^ 29)
+      go (yes l) = at Down false 0 (mode-down control o (is .0) (is .1 l)) refl
+      go (no k) = at Zero false 0 (mode-zero control o (is .0) (is .2 k)) refl
+
+-- an even number of units goes through the cut
+cut-even : (mode : Rounding) (s : Bool) (k m : ℕ) → cutTo mode s (k * 2 ^ 30 + m) (2 ^ 29) ≡ k * 2 + cutTo mode s m (2 ^ 29)
+cut-even mode s k m =
+    sym (cut-by-sum (k * 2 ^ 30 + m) (2 ^ 28) (lit< tt) mode s)
+    ∙ ap (λ (z : ℕ). (k * 2 ^ 30 + m + z) / 2 ^ 29) (increment-same mode s (k * 2 ^ 30 + m) m (2 ^ 29) (parity k m))
+    ∙ over k m (increment mode s m (2 ^ 29))
+    ∙ ap (λ (x : ℕ). k * 2 + x) (cut-by-sum m (2 ^ 28) (lit< tt) mode s)
+  where
+    parity : (k m : ℕ) → (k * 2 ^ 30 + m) / 2 ^ 29 % 2 ≡ m / 2 ^ 29 % 2
+    parity k m = omega arith
+
+    over : (k m c : ℕ) → (k * 2 ^ 30 + m + c) / 2 ^ 29 ≡ k * 2 + (m + c) / 2 ^ 29
+    over k m c = omega arith
+
+-- cut as it stands, and less by the difference of the exponents
+module _ (mode : Rounding) (s : Bool) (size kept : ℕ) (h : 0x3800_0000_0000_0000 ≤ size) (p : kept ≡ cutTo mode s size (2 ^ 29)) where
+  raised : kept ≡ 0x1_C000_0000 + cutTo mode s (size - 0x3800_0000_0000_0000) (2 ^ 29)
+  raised = p ∙ ap (λ (z : ℕ). cutTo mode s z (2 ^ 29)) (apart size h) ∙ cut-even mode s 0xE000_0000 (size - 0x3800_0000_0000_0000)
+    where
+      apart : (size : ℕ) → 0x3800_0000_0000_0000 ≤ size → size ≡ 0xE000_0000 * 2 ^ 30 + (size - 0x3800_0000_0000_0000)
+      apart size h = omega arith
+
+  lowered : (0x1_C000_0000 ≤ kept) × (kept - 0x1_C000_0000 ≡ cutTo mode s (size - 0x3800_0000_0000_0000) (2 ^ 29))
+  lowered = go kept (cutTo mode s (size - 0x3800_0000_0000_0000) (2 ^ 29)) raised
+    where
+      go : (k x : ℕ) → k ≡ 0x1_C000_0000 + x → (0x1_C000_0000 ≤ k) × (k - 0x1_C000_0000 ≡ x)
+      go k x e = (omega arith, omega arith)
+
+module _ (mode : Rounding) (s : Bool) (X kept : ℕ) (p : kept ≡ cutTo mode s X (2 ^ 29)) where
+  kept-under : X < 0x0FF0_0000_0000_0000 → kept ≤ ceiling mode binary32 s
+  kept-under h = le-trans (le-of-eq p) (under-ceiling mode binary32 s (X / 2 ^ 29) _ _ (high X h))
     where
       high : (x : ℕ) → x < 0x0FF0_0000_0000_0000 → x / 2 ^ 29 < 0x7F80_0000
       high x h = omega arith
 
+  kept-most : X < 0x0FF0_0000_0000_0000 → kept ≤ 0x7F80_0000
+  kept-most h = le-trans (kept-under h) (ceiling-le mode binary32 s)
+
   kept-least : 2 ^ 52 ≤ X → 2 ^ 23 ≤ kept
-  kept-least h = le-trans (le-trans (low X h) (cut-ge Nearest false X (2 ^ 29))) (le-of-eq (sym (p .kept-is)))
+  kept-least h = le-trans (le-trans (low X h) (cut-ge mode s X (2 ^ 29))) (le-of-eq (sym p))
     where
       low : (x : ℕ) → 2 ^ 52 ≤ x → 2 ^ 23 ≤ x / 2 ^ 29
       low x h = omega arith
 
-  -- the field's part is even after the cut, and goes through it
-  apart : (s : Bool) (k m : ℕ) → X ≡ k * 2 ^ 52 + m → kept ≡ k * 2 ^ 23 + cutTo Nearest s m (2 ^ 29)
-  apart s k m e =
-      p .kept-is
-      ∙ sym (cut-by-sum X (2 ^ 28) (lit< tt) Nearest false)
-      ∙ ap (λ (x : ℕ). (x + (2 ^ 28 - 1 + x / 2 ^ 29 % 2)) / 2 ^ 29) e
-      ∙ split k m
-      ∙ ap (λ (x : ℕ). k * 2 ^ 23 + x) (cut-by-sum m (2 ^ 28) (lit< tt) Nearest s)
+  apart : (k m : ℕ) → X ≡ k * 2 ^ 52 + m → kept ≡ k * 2 ^ 23 + cutTo mode s m (2 ^ 29)
+  apart k m e =
+      p
+      ∙ ap (λ (x : ℕ). cutTo mode s x (2 ^ 29)) (e ∙ ap (λ (x : ℕ). x + m) (units k))
+      ∙ cut-even mode s (k * 2 ^ 22) m
+      ∙ ap (λ (x : ℕ). x + cutTo mode s m (2 ^ 29)) (pairs k)
     where
-      parity : (k m : ℕ) → (k * 2 ^ 52 + m) / 2 ^ 29 % 2 ≡ m / 2 ^ 29 % 2
-      parity k m = omega arith
+      units : (k : ℕ) → k * 2 ^ 52 ≡ k * 2 ^ 22 * 2 ^ 30
+      units k = omega arith
 
-      over : (k m c : ℕ) → (k * 2 ^ 52 + m + c) / 2 ^ 29 ≡ k * 2 ^ 23 + (m + c) / 2 ^ 29
-      over k m c = omega arith
+      pairs : (k : ℕ) → k * 2 ^ 22 * 2 ≡ k * 2 ^ 23
+      pairs k = omega arith
 
-      split : (k m : ℕ) → (k * 2 ^ 52 + m + (2 ^ 28 - 1 + (k * 2 ^ 52 + m) / 2 ^ 29 % 2)) / 2 ^ 29 ≡ k * 2 ^ 23 + (m + (2 ^ 28 - 1 + m / 2 ^ 29 % 2)) / 2 ^ 29
-      split k m = ap (λ (z : ℕ). (k * 2 ^ 52 + m + (2 ^ 28 - 1 + z)) / 2 ^ 29) (parity k m) ∙ over k m (2 ^ 28 - 1 + m / 2 ^ 29 % 2)
-
-module _ (b : ℕ) (h : 0x3810_0000_0000_0000 ≤ b % 0x8000_0000_0000_0000) (l : b % 0x8000_0000_0000_0000 < 0x47F0_0000_0000_0000) where
+module _ (mode : Rounding) (b : ℕ) (h : 0x3810_0000_0000_0000 ≤ b % 0x8000_0000_0000_0000) (l : b % 0x8000_0000_0000_0000 < 0x47F0_0000_0000_0000) where
   fields : (897 ≤ field b) × (field b < 1151)
   fields = (omega arith, omega arith)
 
   parts : b % 0x8000_0000_0000_0000 - 0x3800_0000_0000_0000 ≡ (field b - 897) * 2 ^ 52 + (2 ^ 52 + digits b)
   parts = omega arith
 
-  normal-bits : toBits binary32 (narrowed Nearest binary32 (ofBits binary64 b)) ≡ packed Nearest binary32 (neg b) (field b - 897) (cutTo Nearest (neg b) (2 ^ 52 + digits b) (2 ^ 29))
+  normal-bits : toBits binary32 (narrowed mode binary32 (ofBits binary64 b)) ≡ packed mode binary32 (neg b) (field b - 897) (cutTo mode (neg b) (2 ^ 52 + digits b) (2 ^ 29))
   normal-bits =
       let m = 2 ^ 52 + digits b in
-      ap (toBits binary32) (narrowed-value Nearest binary32 (ofBits binary64 b) (neg b) (m * 2 ^ (field b - 1)) (2 ^ 1074) (pow-pos 1074) (reads-normal binary64 b (some (field b) (fields .0)) (few (field b) (fields .1))))
-      ∙ rounded-bits Nearest binary32 (neg b) (m * 2 ^ (field b - 1)) (2 ^ 1074) (field b - 897) m (2 ^ 29) (pow-pos 1074) (pow-pos 29) (scale m (field b) (fields .0)) (under b) (inr (lead b))
+      ap (toBits binary32) (narrowed-value mode binary32 (ofBits binary64 b) (neg b) (m * 2 ^ (field b - 1)) (2 ^ 1074) (pow-pos 1074) (reads-normal binary64 b (some (field b) (fields .0)) (few (field b) (fields .1))))
+      ∙ rounded-bits mode binary32 (neg b) (m * 2 ^ (field b - 1)) (2 ^ 1074) (field b - 897) m (2 ^ 29) (pow-pos 1074) (pow-pos 29) (scale m (field b) (fields .0)) (under b) (inr (lead b))
     where
       some : (x : ℕ) → 897 ≤ x → x ≡ 0 → ⊥
       some x g e = omega arith
@@ -171,24 +259,33 @@ module _ (b : ℕ) (h : 0x3810_0000_0000_0000 ≤ b % 0x8000_0000_0000_0000) (l 
       lead : (b : ℕ) → 2 ^ 23 ≤ (2 ^ 52 + digits b) / 2 ^ 29
       lead b = omega arith
 
-  pub narrow-normal : (control kept r : ℕ) (t : Bool) → b < 2 ^ 64 → IsCut Nearest false (b % 0x8000_0000_0000_0000 - 0x3800_0000_0000_0000) (2 ^ 29) kept t
+  abbrev X : ℕ
+  X = b % 0x8000_0000_0000_0000 - 0x3800_0000_0000_0000
+
+  X-lt : X < 0x0FF0_0000_0000_0000
+  X-lt = omega arith
+
+  pub normal-most : (kept : ℕ) → kept ≡ cutTo mode (neg b) X (2 ^ 29) → kept ≤ 0x7F80_0000
+  normal-most kept p = kept-most mode (neg b) X kept p X-lt
+
+  pub normal-lowered : (kept : ℕ) → kept ≡ cutTo mode (neg b) (b % 0x8000_0000_0000_0000) (2 ^ 29) → (0x1_C000_0000 ≤ kept) × (kept - 0x1_C000_0000 ≡ cutTo mode (neg b) X (2 ^ 29))
+  normal-lowered kept p = lowered mode (neg b) (b % 0x8000_0000_0000_0000) kept (omega arith) p
+
+  pub narrow-normal : (control kept r : ℕ) → mode ≡ roundingOf control → b < 2 ^ 64 → kept ≡ cutTo mode (neg b) X (2 ^ 29)
       → r ≡ b / 0x8000_0000_0000_0000 * 0x8000_0000 + kept → r ≡ narrow control b
   unfolding narrow
-  narrow-normal control kept r t w p e =
-      let X = b % 0x8000_0000_0000_0000 - 0x3800_0000_0000_0000 in
-      let most = kept-most X kept t p (upper b l) in
-      let least = kept-least X kept t p (lower b h) in
-      let is = apart X kept t p (neg b) (field b - 897) (2 ^ 52 + digits b) parts in
+  narrow-normal control kept r g w p e =
+      let most = kept-most mode (neg b) X kept p X-lt in
+      let least = kept-least mode (neg b) X kept p (lower b h) in
+      let is = apart mode (neg b) X kept p (field b - 897) (2 ^ 52 + digits b) parts in
       flush-large binary32 control r (subst (λ (z : ℕ). 2 ^ 23 ≤ z) (sym (rest (b / 0x8000_0000_0000_0000) kept r e most)) least)
       ∙ ap (flush binary32 control)
       (e
       ∙ ap (λ (z : ℕ). z + kept) (sign-bit 0x8000_0000_0000_0000 b 0x8000_0000 (lit< tt) w)
-      ∙ ap (λ (z : ℕ). cond (neg b) 0x8000_0000 0 + z) (sym (min-eq-left most) ∙ ap (λ (z : ℕ). min z 0x7F80_0000) is)
-      ∙ sym normal-bits)
+      ∙ ap (λ (z : ℕ). cond (neg b) 0x8000_0000 0 + z) (sym (min-eq-left (kept-under mode (neg b) X kept p X-lt)) ∙ ap (λ (z : ℕ). min z (ceiling mode binary32 (neg b))) is)
+      ∙ sym normal-bits
+      ∙ ap (λ (z : Rounding). toBits binary32 (narrowed z binary32 (ofBits binary64 b))) g)
     where
-      upper : (b : ℕ) → b % 0x8000_0000_0000_0000 < 0x47F0_0000_0000_0000 → b % 0x8000_0000_0000_0000 - 0x3800_0000_0000_0000 < 0x0FF0_0000_0000_0000
-      upper b l = omega arith
-
       lower : (b : ℕ) → 0x3810_0000_0000_0000 ≤ b % 0x8000_0000_0000_0000 → 2 ^ 52 ≤ b % 0x8000_0000_0000_0000 - 0x3800_0000_0000_0000
       lower b h = omega arith
 

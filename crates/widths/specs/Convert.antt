@@ -4,9 +4,8 @@ use mathlib.Core.Path.{_≡_}
 use mathlib.Core.Bool.{Bool, true, false}
 use lib.Ieee.{Float, nan, inf, fin, Format, binary32, binary64, up, down, ofBits, toBits}
 use Rattle.floats.specs.Flush.{flush}
-use Rattle.rounding.specs.Rounding.{rounded, exact, over, tiny}
+use Rattle.rounding.specs.Rounding.{roundingOf, rounded, exact, over, tiny}
 use Rattle.rounding.specs.declared.rounding.Rounding.{Rounding}
-use Rattle.rounding.specs.declared.rounding.Rounding.the-variants.{Nearest}
 
 -- a value of any format at the format f, rounded once
 unfoldable pub narrowed : Rounding → Format → Float → Float
@@ -20,9 +19,9 @@ onFinite d g nan = d
 onFinite d g (inf s) = d
 onFinite d g (fin s m e) = g s (m * up e) (down e)
 
--- a double's bits as a single's word: rounded to nearest even, then flushed as a single
+-- a double's bits as a single's word: rounded by the mode, then flushed as a single
 unfoldable pub narrow : ℕ → ℕ → ℕ
-narrow control b = flush binary32 control (toBits binary32 (narrowed Nearest binary32 (ofBits binary64 b)))
+narrow control b = flush binary32 control (toBits binary32 (narrowed (roundingOf control) binary32 (ofBits binary64 b)))
 
 -- a single's word as the bits of the double of the same value
 unfoldable pub widen : ℕ → ℕ

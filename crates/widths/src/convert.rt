@@ -1,14 +1,18 @@
 // Conversions between the widths, by integer work on the bits.
 ghost use mathlib.Core.Path.{_≡_};
+ghost use Prim.Native.Nat.{ℕ, _/_, _%_, _<_, _^_};
 ghost use lib.Ieee.{binary32, binary64, ofBits};
+ghost use Rattle.rounding.specs.Rounding.{roundingOf, cutTo, increment, IsCut};
 ghost use Rattle.widths.specs.Convert.{IsNarrowed, narrow, widen};
 use floats::flush::flush32;
 use packing::pack::Settled32;
 use packing::pack::settle32;
 use packing::pack::sign32;
 use rounding::lift::lift;
+use rounding::rounding::Rounded;
 use rounding::rounding::Rounding;
 use rounding::rounding::cut;
+use rounding::rounding::rounding_of;
 
 // A single's word as the bits of the double of the same value. A subnormal is moved up by its leading zeros.
 pub fn widen(b: u32) -> u64
@@ -68,17 +72,73 @@ fn narrowed32(mode: Rounding, b: u64) -> Settled32
     )
 }
 
-// The nearest single, flushed as a single. Where a normal double becomes a normal single, or an infinity, its pattern is cut as it stands.
+// What is added to a size for its quotient by 2 ^ 29 to be rounded by a mode other than 00. Bit 23 says that no size above 0 goes up, bit 22 that none
+// below 0 does.
+fn directed_increment(control: u32, negative: bool) -> u64
+    requires { ⌜ (control / 2 ^ 22 % 4 ≡ 0 → ⊥) ⌝ }
+    ensures { λ r. ⌜ ((m : ℕ) → r ≡ increment (roundingOf control) negative m (2 ^ 29)) ⌝ }
+{
+    if negative {
+        if control / 0x40_0000 % 2 == 0 {
+            return 0x1FFF_FFFF;
+        }
+        return 0;
+    }
+    if control / 0x80_0000 % 2 == 0 {
+        return 0x1FFF_FFFF;
+    }
+    0
+}
+
+// m / 2 ^ 29 of the given sign in a mode other than 00.
+fn directed(control: u32, negative: bool, m: u64) -> u64
+    requires { ⌜ (m < 2 ^ 63) × (control / 2 ^ 22 % 4 ≡ 0 → ⊥) ⌝ }
+    ensures { λ r. ⌜ r ≡ cutTo (roundingOf control) negative m (2 ^ 29) ⌝ }
+{
+    (m + directed_increment(control, negative)) / 0x2000_0000
+}
+
+// The same in every mode, and whether nothing was left. A single has 29 digits fewer than a double.
+pub fn shorten(control: u32, negative: bool, m: u64) -> Rounded
+    requires { ⌜ m < 2 ^ 63 ⌝ }
+    ensures { λ r. ⌜ IsCut (roundingOf control) negative m (2 ^ 29) (r .kept) (r .exact) ⌝ }
+{
+    if control / 0x40_0000 % 4 == 0 {
+        return cut(Rounding::Nearest, negative, m, 29);
+    }
+    Rounded {
+        kept: directed(control, negative, m),
+        exact: m % 0x2000_0000 == 0,
+    }
+}
+
+// The single that the mode asks for, flushed as a single. Where a normal double becomes a normal single, or is too large by its last digits alone, its
+// pattern is cut as it stands: in mode 00 by one sum.
 pub fn narrow(control: u32, b: u64) -> u32
     ensures { λ r. ⌜ r ≡ narrow control b ⌝ }
 {
+    let negative = b >= 0x8000_0000_0000_0000;
     let size = b % 0x8000_0000_0000_0000;
-    if size >= 0x3810_0000_0000_0000 {
-        if size < 0x47F0_0000_0000_0000 {
-            let c = cut(Rounding::Nearest, false, size - 0x3800_0000_0000_0000, 29);
-            return (b / 0x8000_0000_0000_0000 * 0x8000_0000 + c.kept) as u32;
+    if control / 0x40_0000 % 4 == 0 {
+        if size >= 0x3810_0000_0000_0000 {
+            if size < 0x47F0_0000_0000_0000 {
+                let c = cut(
+                    Rounding::Nearest,
+                    negative,
+                    size - 0x3800_0000_0000_0000,
+                    29,
+                );
+                return (b / 0x8000_0000_0000_0000 * 0x8000_0000 + c.kept) as u32;
+            }
+        }
+    } else {
+        if size >= 0x3810_0000_0000_0000 {
+            if size < 0x47F0_0000_0000_0000 {
+                let kept = directed(control, negative, size) - 0x1_C000_0000;
+                return (b / 0x8000_0000_0000_0000 * 0x8000_0000 + kept) as u32;
+            }
         }
     }
-    let r = narrowed32(Rounding::Nearest, b);
+    let r = narrowed32(rounding_of(control), b);
     flush32(control, r.bits)
 }

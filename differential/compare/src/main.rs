@@ -21,8 +21,9 @@ struct Comparison {
 }
 
 impl Comparison {
-    /// One call on both sides; state and window are left as both leave them.
+    /// One call on both sides, in mode 00 where the word rounds; state and window are left as both leave them.
     fn call(&mut self, call: Call, thumb: bool, word: u32, base: u32, state: &mut [u32; STATE], window: &mut [u32]) {
+        cases::to_nearest(call, word, state);
         let (mut a, mut b) = (*state, *state);
         self.theirs.clear();
         self.theirs.extend_from_slice(window);

@@ -159,12 +159,30 @@ const FIXED: [(Call, u32, u32); 46] = [
 ];
 
 /// what a comparison says that it leaves out.
-pub const LEFT_OUT: &str = "left out: transfers of opc1 1 under coprocessor 11, the high halves of doubles (2026-01)";
+pub const LEFT_OUT: &str = "left out: transfers of opc1 1 under coprocessor 11, the high halves of doubles (2026-01); words that round, in modes 01, 10 and 11 (2026-06)";
 
 /// the transfers that a comparison leaves out: opc1 1 under coprocessor 11, where vfp.rs does nothing. The unit moves the high half of a double
 /// there, by the manual (request 2026-01), and its definition judges these words.
 pub fn left_out(word: u32) -> bool {
     field(word, 21, 3) == 1 && field(word, 8, 4) == 11
+}
+
+/// the words that round by the mode of FPSCR 23:22: arithmetic, roots, narrowing, an integer as a single (request 2026-06). vfp.rs rounds them to
+/// nearest in every mode, so that they are compared in mode 00 alone; differential/modes compares the other modes with this machine's.
+pub fn rounds(call: Call, word: u32) -> bool {
+    match OPERATIONS[operation(call, word)] {
+        "FMAC" | "FNMAC" | "FMSC" | "FNMSC" | "FMUL" | "FNMUL" | "FADD" | "FSUB" | "FDIV" | "FSQRT" => true,
+        "FCVT" => field(word, 8, 4) == 11,
+        "FUITO" | "FSITO" => field(word, 8, 4) == 10,
+        _ => false,
+    }
+}
+
+/// mode 00 where the word rounds.
+pub fn to_nearest(call: Call, word: u32, state: &mut [u32; STATE]) {
+    if rounds(call, word) {
+        state[49] &= !(3 << 22);
+    }
 }
 
 /// a word of every kind in turn, but those left out: `kind` is any number.

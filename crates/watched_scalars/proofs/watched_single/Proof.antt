@@ -1,11 +1,12 @@
 -- `watched_scalars::watched_single` meets its contract.
 use Prim.Native.Nat.{_%_, _^_}
+use native.Mathlib.Omega.{arith}
 use denote.Ref.{now}
 use lib.Ieee.{binary32}
 use mathlib.Core.Path.{_∙_, ap}
 use borrow.Author.Needs.{needs}
 use Rattle.decoding.specs.Operation.{arithmeticOf}
-use Rattle.scalars.proofs.Scalar.{scalar-done}
+use Rattle.scalars.proofs.Scalar.{scalar-done, in-control-mode}
 use Rattle.watched_scalars.proofs.Marks.{scalar-marked}
 use Rattle.watched_scalars.proofs.watched_single.Statement.{statement}
 use Rattle.watched_scalars.proofs.watched_single.Tie as tie
@@ -20,5 +21,7 @@ watched-single-spec =
     (λ c κs. search needs)
     (λ c κs. search needs)
     (λ c κs. search needs)
+    (λ c κs. (omega arith, omega arith, omega arith, in-control-mode (c .before .before .before .before .before .before .before .before .args .fpscr) (c .before .if1 .taken)))
+    (λ c. let a = c .before .before .before .before .before .before .before .before .before .args in let pre = c .before .before .before .before .before .before .before .before .before .pre in (scalar-done binary32 (a .op) (now (a .s)) (a .fpscr) _ (pre .2) (a .number) (pre .0) (pre .1) (c .before .before .before .before .before .before .before .arithmetic-of .ensures ∙ ap arithmeticOf (c .before .before .before .before .before .before .before .before .numbered .ensures)) (c .before .before .before .before .before .before .single-d .ensures .0) (c .before .before .before .before .before .single-n .ensures .0) (c .before .before .before .before .single-m .ensures .0) (c .native-single .ensures), scalar-marked binary32 (a .op) (a .fpscr) (a .marks) _ (pre .2) (a .number) (pre .0) (pre .1) (c .before .before .before .before .before .before .before .arithmetic-of .ensures ∙ ap arithmeticOf (c .before .before .before .before .before .before .before .before .numbered .ensures)) (c .before .before .before .before .before .before .single-d .ensures .0) (c .before .before .before .before .before .single-n .ensures .0) (c .before .before .before .before .single-m .ensures .0) (c .before .before .before .mark-sum-single .ensures (a .fpscr % 2 ^ 28))))
     (λ c κs. search needs)
-    (λ c. let a = c .before .before .before .before .before .before .before .before .args in let pre = c .before .before .before .before .before .before .before .before .pre in (scalar-done binary32 (a .op) (now (a .s)) (a .fpscr) _ (pre .2) (a .number) (pre .0) (pre .1) (c .before .before .before .before .before .before .arithmetic-of .ensures ∙ ap arithmeticOf (c .before .before .before .before .before .before .before .numbered .ensures)) (c .before .before .before .before .before .single-d .ensures .0) (c .before .before .before .before .single-n .ensures .0) (c .before .before .before .single-m .ensures .0) (c .arithmetic-single .ensures), scalar-marked binary32 (a .op) (a .fpscr) (a .marks) _ (pre .2) (a .number) (pre .0) (pre .1) (c .before .before .before .before .before .before .arithmetic-of .ensures ∙ ap arithmeticOf (c .before .before .before .before .before .before .before .numbered .ensures)) (c .before .before .before .before .before .single-d .ensures .0) (c .before .before .before .before .single-n .ensures .0) (c .before .before .before .single-m .ensures .0) (c .before .before .mark-sum-single .ensures (a .fpscr % 2 ^ 28)))))
+    (λ c. let a = c .before .before .before .before .before .before .before .before .before .args in let pre = c .before .before .before .before .before .before .before .before .before .pre in (scalar-done binary32 (a .op) (now (a .s)) (a .fpscr) _ (pre .2) (a .number) (pre .0) (pre .1) (c .before .before .before .before .before .before .before .arithmetic-of .ensures ∙ ap arithmeticOf (c .before .before .before .before .before .before .before .before .numbered .ensures)) (c .before .before .before .before .before .before .single-d .ensures .0) (c .before .before .before .before .before .single-n .ensures .0) (c .before .before .before .before .single-m .ensures .0) (c .rounded-single .ensures), scalar-marked binary32 (a .op) (a .fpscr) (a .marks) _ (pre .2) (a .number) (pre .0) (pre .1) (c .before .before .before .before .before .before .before .arithmetic-of .ensures ∙ ap arithmeticOf (c .before .before .before .before .before .before .before .before .numbered .ensures)) (c .before .before .before .before .before .before .single-d .ensures .0) (c .before .before .before .before .before .single-n .ensures .0) (c .before .before .before .before .single-m .ensures .0) (c .before .before .before .mark-sum-single .ensures (a .fpscr % 2 ^ 28)))))

@@ -34,6 +34,27 @@ fn any_word(r: &mut Random, turn: u64) -> u32 {
     class | coprocessor << 8 | condition << 28
 }
 
+/// a word that changes nothing: VMOV.F32 s0, s0.
+const NOTHING: u32 = 0xEEB0_0A40;
+
+/// whether a word of a list rounds by another mode than 00, from this state on.
+fn directed(word: u32, state: &[u32; STATE]) -> bool {
+    word >> 24 & 15 == 14 && word >> 4 & 1 == 0 && cases::rounds(Call::DataProcessing, word) && state[49] >> 22 & 3 != 0
+}
+
+/// the list with words that would round by another mode than 00 changed into one that changes nothing, by what the Rust makes of those before them.
+fn to_nearest(cpu: &mut Cpu, list: &mut [u32], base: u32, state: &[u32; STATE], window: &[u32]) {
+    let (mut s, mut w) = (*state, window.to_vec());
+    for word in list {
+        if directed(*word, &s) {
+            *word = NOTHING;
+        }
+        if oracle::listed(cpu, &[*word], base, false, &mut s, &mut w).0 != 0 {
+            return;
+        }
+    }
+}
+
 /// a list of 4,096 or 4,097 mixed words that runs to its end from this state and window, as far as that can be told: a word that stops the run so
 /// far, or switches the unit off, gives way to one that changes nothing.
 fn long(r: &mut Random, cpu: &mut Cpu, length: u32, base: u32, state: &[u32; STATE], window: &[u32], turn: &mut u64) -> Vec<u32> {
@@ -44,8 +65,8 @@ fn long(r: &mut Random, cpu: &mut Cpu, length: u32, base: u32, state: &[u32; STA
             let any = word(r, *turn);
             let (mut t, mut v) = (s, w.clone());
             let (kind, _) = oracle::listed(cpu, &[any], base, false, &mut t, &mut v);
-            if kind != 0 || t[50] >> 30 & 1 == 0 {
-                return 0xEEB0_0A40;
+            if kind != 0 || t[50] >> 30 & 1 == 0 || directed(any, &s) {
+                return NOTHING;
             }
             (s, w) = (t, v);
             any
@@ -84,6 +105,7 @@ fn main() {
                 list.push(word(&mut r, turn));
                 turn += 1;
             }
+            to_nearest(&mut cpu, &mut list, base, &state, &window);
         }
         let thumb = r.once_in(200);
         let (mut a, mut b, mut v, mut w) = (state, state, window.clone(), window.clone());

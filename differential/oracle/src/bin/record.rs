@@ -1,5 +1,5 @@
 //! record FILE [OF_EACH]: writes a sample of the Rust's answers, some of every operation in every width, of every answer, ARM and Thumb. The transfers
-//! that cases::left_out names are not among them.
+//! that cases::left_out names are not among them, and words that round are in mode 00.
 //! A record is 128 words of 32 bits, lowest byte first:
 //! 0 call (as Call::number, or 4: conditions), 1 thumb, 2 word, 3 base, 4 window words, 5 kind, 6 address, 7 word reported,
 //! 8 to 59 the state given, 60 to 67 the window given, 68 to 119 the state left, 120 to 127 the window left.
@@ -62,6 +62,7 @@ fn main() {
         }
         cases::machine(&mut r, &mut state, base, window.len().min(8));
         let (call, word) = cases::word(&mut r, turn);
+        cases::to_nearest(call, word, &mut state);
         let width = match word >> 8 & 15 {
             10 => 0,
             11 => 1,

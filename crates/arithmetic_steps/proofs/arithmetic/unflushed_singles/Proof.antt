@@ -4,15 +4,15 @@ use native.Mathlib.Omega.{arith}
 use lib.Ieee.{binary32}
 use borrow.Author.Needs.{needs}
 use Rattle.arithmetic_steps.specs.Arithmetic.{arithmeticStep}
-use Rattle.short_vectors.proofs.Loop.{Iterating, onSingles, initially, d-steps, n-steps, m-steps, again, finally}
+use Rattle.short_vectors.proofs.Loop.{Reaching, onSingles, reach, reach-none, reach-on, reach-few, d-steps, n-steps, m-steps, reach-again, reach-end}
 use Rattle.arithmetic_steps.proofs.arithmetic.unflushed_singles.Statement.{statement}
 use Rattle.arithmetic_steps.proofs.arithmetic.unflushed_singles.Tie as tie
 
 abbrev Inv-loop : tie.InvT-loop
-Inv-loop s₀ control kind vector count dn₀ nn₀ mn₀ i₀ s dn nn mn i = Iterating onSingles binary32 control (arithmeticStep binary32 control kind) dn₀ nn₀ mn₀ vector s₀ s dn nn mn i
+Inv-loop s₀ control kind vector end dn₀ nn₀ mn₀ far₀ s dn nn mn far = Reaching onSingles binary32 control (arithmeticStep binary32 control kind) dn₀ nn₀ mn₀ vector s₀ s dn nn mn far
 
 abbrev μ-loop : tie.MeasureT-loop
-μ-loop s₀ control kind vector count dn₀ nn₀ mn₀ i₀ s dn nn mn i = count - i
+μ-loop s₀ control kind vector end dn₀ nn₀ mn₀ far₀ s dn nn mn far = end - far
 
 pub unflushed-singles-spec : {M : Type 1} → statement M
 unflushed-singles-spec =
@@ -21,12 +21,13 @@ unflushed-singles-spec =
     Inv-loop
     μ-loop
     (λ c κs. search needs)
-    (λ c. initially (c .new .ensures) (omega arith) (omega arith) (omega arith))
+    (λ c. omega (arith, reach (c .before .new .ensures)))
+    (λ c. reach-none (c .before .new .ensures) (omega arith) (omega arith) (omega arith))
     (λ c κs. search needs)
-    (λ c. omega arith)
-    (λ c. finally (c .before .before .before .loop .inv) (c .before .unflushed-single .ensures (c .before .before .before .before .before .args .control) (c .before .before .before .before .before .pre .3)) (c .if1 .taken))
-    (λ c κs. d-steps (c .before .before .before .loop .inv))
-    (λ c κs. n-steps (c .before .before .before .before .loop .inv))
-    (λ c κs. m-steps (c .before .before .before .before .before .loop .inv))
-    (λ c. omega arith)
-    (λ c. again (c .before .before .before .before .before .before .loop .inv) (c .before .before .before .before .unflushed-single .ensures (c .before .before .before .before .before .before .before .before .args .control) (c .before .before .before .before .before .before .before .before .pre .3)) (omega arith) (c .before .before .step .ensures) (c .before .step2 .ensures) (c .second .ensures)))
+    (λ c. omega (arith, reach-few (c .before .before .before .loop .inv)))
+    (λ c. reach-end (c .before .before .before .before .loop .inv) (c .before .before .unflushed-single .ensures (c .before .before .before .before .before .before .before .args .control) (c .before .before .before .before .before .before .before .pre .3)) (c .if1 .taken))
+    (λ c κs. d-steps (c .before .before .before .before .loop .inv .here))
+    (λ c κs. n-steps (c .before .before .before .before .before .loop .inv .here))
+    (λ c κs. m-steps (c .before .before .before .before .before .before .loop .inv .here))
+    (λ c. omega (arith, reach-on (c .before .before .before .before .before .before .before .loop .inv)))
+    (λ c. reach-again (c .before .before .before .before .before .before .before .loop .inv) (c .before .before .before .before .before .unflushed-single .ensures (c .before .before .before .before .before .before .before .before .before .before .args .control) (c .before .before .before .before .before .before .before .before .before .before .pre .3)) (omega arith) (c .before .before .step .ensures) (c .before .step2 .ensures) (c .second .ensures)))

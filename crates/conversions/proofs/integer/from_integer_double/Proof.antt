@@ -1,4 +1,5 @@
 -- `conversions::integer::from_integer_double` meets its contract.
+use Rattle.rounding.specs.declared.rounding.Rounding.the-variants.{Nearest}
 use borrow.Author.Needs.{needs}
 use Rattle.conversions.proofs.integer.from_integer_double.Statement.{statement}
 use Rattle.conversions.proofs.integer.from_integer_double.Tie as tie
@@ -10,4 +11,4 @@ from-integer-double-spec =
     (λ c κs. search needs)
     (λ c κs. search needs)
     (λ c κs. search needs)
-    (λ c q v. rw (c .set-double .ensures, c .before .before .from-integer64 .ensures, c .before .before .before .get-single .ensures)))
+    (λ c q v. rw (c .set-double .ensures, c .before .before .from-integer64 .ensures Nearest, c .before .before .before .get-single .ensures)))

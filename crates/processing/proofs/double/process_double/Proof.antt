@@ -3,7 +3,7 @@ use denote.Ref.{now}
 use mathlib.Core.Bool.{true, false}
 use lib.Ieee.{binary64}
 use borrow.Author.Needs.{needs}
-use Rattle.processing.proofs.Arms.{arithmetic, copied, absolute, negated, rooted, compared, compared-zero, narrowed, from-integer, rounded, truncated, undefined}
+use Rattle.processing.proofs.Arms.{arithmetic, copied, absolute, negated, rooted, compared, compared-zero, narrowed, from-integer-exact, rounded, truncated, undefined}
 use Rattle.processing.proofs.double.process_double.Statement.{statement}
 use Rattle.processing.proofs.double.process_double.Tie as tie
 
@@ -74,8 +74,8 @@ process-double-spec =
     (λ c. let a = c .before .before .before .before .before .args in compared binary64 (a .op) (now (a .s)) (a .fpscr) _ (a .o) (c .before .before .double-d6 .ensures .0) (c .before .double-m6 .ensures .0) (c .before .before .before .before .match .keys6) _ (c .compare-double .ensures))
     (λ c. let a = c .before .before .before .before .args in compared-zero binary64 (a .op) (now (a .s)) (a .fpscr) _ (a .o) (c .before .double-d7 .ensures .0) (c .before .before .before .match .keys7) _ (c .compare-double-zero .ensures))
     (λ c. let a = c .before .before .before .before .before .before .args in narrowed (a .op) (now (a .s)) (a .fpscr) _ (a .o) (c .before .before .single-d .ensures .0) (c .before .double-m7 .ensures .0) (c .before .before .before .before .enum-told5 .given .1) (c .narrow-double .ensures))
-    (λ c. let a = c .before .before .before .before .before .before .args in from-integer binary64 (a .op) (now (a .s)) (a .fpscr) _ (a .o) (c .before .before .double-d8 .ensures .0) (c .before .single-m .ensures .0) false (c .before .before .before .before .enum-told6 .given .1) (c .from-integer-double .ensures))
-    (λ c. let a = c .before .before .before .before .before .before .args in from-integer binary64 (a .op) (now (a .s)) (a .fpscr) _ (a .o) (c .before .before .double-d9 .ensures .0) (c .before .single-m2 .ensures .0) true (c .before .before .before .before .enum-told7 .given .1) (c .from-integer-double2 .ensures))
+    (λ c. let a = c .before .before .before .before .before .before .args in from-integer-exact binary64 (a .op) (now (a .s)) (a .fpscr) _ (a .o) (c .before .before .double-d8 .ensures .0) (c .before .single-m .ensures .0) false (c .before .before .before .before .enum-told6 .given .1) (c .from-integer-double .ensures))
+    (λ c. let a = c .before .before .before .before .before .before .args in from-integer-exact binary64 (a .op) (now (a .s)) (a .fpscr) _ (a .o) (c .before .before .double-d9 .ensures .0) (c .before .single-m2 .ensures .0) true (c .before .before .before .before .enum-told7 .given .1) (c .from-integer-double2 .ensures))
     (λ c. let a = c .before .before .before .before .before .before .args in rounded binary64 (a .op) (now (a .s)) (a .fpscr) _ (a .o) (c .before .before .single-d2 .ensures .0) (c .before .double-m8 .ensures .0) false (c .before .before .before .before .enum-told8 .given .1) (c .round-double .ensures))
     (λ c. let a = c .before .before .before .before .before .before .args in truncated binary64 (a .op) (now (a .s)) (a .fpscr) _ (a .o) (c .before .before .single-d3 .ensures .0) (c .before .double-m9 .ensures .0) false (c .before .before .before .before .enum-told9 .given .1) (c .truncate-double .ensures))
     (λ c. let a = c .before .before .before .before .before .before .args in rounded binary64 (a .op) (now (a .s)) (a .fpscr) _ (a .o) (c .before .before .single-d4 .ensures .0) (c .before .double-m10 .ensures .0) true (c .before .before .before .before .enum-told10 .given .1) (c .round-double2 .ensures))

@@ -3,7 +3,8 @@ use mathlib.Core.Path.{sym, _∙_}
 use lib.Ieee.{binary32, binary64}
 use Rattle.place_marks.specs.Word.{mapIn}
 use Rattle.decoding.specs.Fields.{regD, regM}
-use Rattle.processing_marks.proofs.Steps.{from-marks}
+use Rattle.place_marks.proofs.Places.{place-control}
+use Rattle.processing_marks.proofs.Steps.{from-single-marks, from-double-marks}
 use borrow.Author.Needs.{needs}
 use Rattle.processing_marks.proofs.step.mark_from_integer.Statement.{statement}
 use Rattle.processing_marks.proofs.step.mark_from_integer.Tie as tie
@@ -16,7 +17,8 @@ mark-from-integer-spec =
     (λ c κs. search needs)
     (λ c κs. search needs)
     (λ c κs. search needs)
-    (λ c sign w. let a = c .before .before .before .before .before .args in rw (c .before .before .if1 .taken) (c .mark-double .ensures w ∙ rw (c .before .before .before .single-known .ensures w, c .before .double-d .ensures .0, c .before .before .before .before .single-m .ensures .0) (sym (from-marks (mapIn (a .marks) w) binary64 sign (regD binary64 (a .op)) (regM binary32 (a .op))))))
+    (λ c sign w. let a = c .before .before .before .before .before .args in rw (c .before .before .if1 .taken) (c .mark-double .ensures w ∙ rw (c .before .before .before .single-known .ensures w, c .before .double-d .ensures .0, c .before .before .before .before .single-m .ensures .0) (sym (from-double-marks (mapIn (a .marks) w) sign (regD binary64 (a .op)) (regM binary32 (a .op))))))
     (λ c κs. search needs)
     (λ c κs. search needs)
-    (λ c sign w. let a = c .before .before .before .before .before .args in rw (c .before .before .if1 .left) (c .mark-single .ensures w ∙ rw (c .before .before .before .single-known .ensures w, c .before .single-d .ensures .0, c .before .before .before .before .single-m .ensures .0) (sym (from-marks (mapIn (a .marks) w) binary32 sign (regD binary32 (a .op)) (regM binary32 (a .op)))))))
+    (λ c κs. search needs)
+    (λ c sign w. let a = c .before .before .before .before .before .before .args in rw (c .before .before .before .if1 .left) (c .mark-single .ensures w ∙ rw (c .before .before .before .before .single-known .ensures w, c .before .is-known .ensures w, place-control, c .before .before .single-d .ensures .0, c .before .before .before .before .before .single-m .ensures .0) (sym (from-single-marks (mapIn (a .marks) w) sign (regD binary32 (a .op)) (regM binary32 (a .op)))))))

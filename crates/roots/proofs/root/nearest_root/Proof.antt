@@ -24,7 +24,7 @@ add-result-2 c = search needs
 
 returns : tie.Need-returns
 returns c = record {
-  is = λ l. near-is (c .before .before .args .q) (c .before .before .args .rest) (c .before .one-if .result) (c .one-if2 .result) (c .before .before .pre .1) (c .before .one-if .ensures .0) (c .one-if2 .ensures .0);
+  is = near-is (c .before .before .args .q) (c .before .before .args .rest) (c .before .one-if .result) (c .one-if2 .result) (c .before .before .pre .1) (c .before .one-if .ensures .0) (c .one-if2 .ensures .0);
   below = omega (arith, c .before .one-if .ensures .1, c .one-if2 .ensures .1);
 }
 

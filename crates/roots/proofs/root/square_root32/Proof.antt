@@ -1,56 +1,63 @@
-use lib.Ieee.{binary32}
-use Prim.Native.Nat.{ℕ}
-use mathlib.Core.Path.{refl, sym, _∙_}
+use Rattle.roots.proofs.RootNear.{found, by-mode, near-word}
 use Rattle.roots.proofs.Laws.{root-unflushed}
-use Rattle.roots.proofs.RootNear.{near-word}
+use Rattle.roots.specs.Root.{sqrtOf}
+use Rattle.rounding.specs.declared.rounding.Rounding.the-variants.{Up, Zero}
+use Rattle.rounding.specs.declared.rounding.Rounding.{Rounding}
+use Rattle.rounding.specs.Rounding.{roundingOf}
+use Prim.Native.Nat.{_*_, _/_, _%_, _^_}
+use lib.Dec.{eqb}
+use lib.Ieee.{binary32, ofBits, toBits}
 use native.Mathlib.Omega.{arith}
+use mathlib.Core.Bool.{cond}
+use mathlib.Core.Path.{refl, sym, ap, _∙_}
 use borrow.Author.Needs.{needs}
 use Rattle.roots.proofs.root.square_root32.Statement.{statement}
 use Rattle.roots.proofs.root.square_root32.Tie as tie
 
-mul-nearest24 : tie.Need-mul-nearest24
-mul-nearest24 c = search needs
+mul-y : tie.Need-mul-y
+mul-y c = search needs
 
-nearest24-requires : tie.Need-nearest24-requires
-nearest24-requires c κs = search needs
+radicand-requires : tie.Need-radicand-requires
+radicand-requires c κs = search needs
 
-add-result : tie.Need-add-result
-add-result c = search needs
+inverse-requires : tie.Need-inverse-requires
+inverse-requires c κs = search needs
 
-add-result-2 : tie.Need-add-result-2
-add-result-2 c = search needs
+estimate24-requires : tie.Need-estimate24-requires
+estimate24-requires c κs = search needs
 
-mul-result : tie.Need-mul-result
-mul-result c = search needs
+directed-root-requires : tie.Need-directed-root-requires
+directed-root-requires c κs = (c .before .estimate24 .ensures .small, c .before .estimate24 .ensures .room (c .if4 .taken))
 
-add-result-3 : tie.Need-add-result-3
-add-result-3 c = search needs
-
-cast-result : tie.Need-cast-result
-cast-result c = omega (arith, c .before .nearest24 .ensures .below)
+placed32-requires : tie.Need-placed32-requires
+placed32-requires c κs = (c .before .before .before .before .before .if3 .taken, found (cond (eqb (c .before .before .before .before .before .before .before .before .args .control / 2 ^ 22 % 4) 1) Up Zero) _ _ _ _ _ _ (c .before .before .estimate24 .ensures) (c .before .if4 .taken) (c .directed-root .ensures) .1)
 
 returns : tie.Need-returns
-returns c = λ (control : ℕ).
-    near-word binary32 (c .before .before .before .before .args .m) _ _ (c .before .nearest24 .result) _ (c .before .before .before .if1 .taken) (c .before .before .if2 .taken) refl (omega arith) (c .before .nearest24 .ensures .is (c .if3 .taken)) (omega arith)
-    ∙ sym (root-unflushed binary32 control (c .before .before .before .before .args .m))
+returns c = let s = c .before .before .before .before .before .before .before .before .before in
+    near-word (roundingOf (s .args .control)) binary32 (s .args .m) _ (c .before .before .before .before .before .radicand .result / 64) _ _ (c .before .before .before .before .before .before .before .if2 .taken) (c .before .before .before .before .before .before .if3 .taken) refl (omega (arith, c .before .before .before .before .before .radicand .ensures .0))
+    (found (cond (eqb (s .args .control / 2 ^ 22 % 4) 1) Up Zero) _ _ _ _ _ _ (c .before .before .before .estimate24 .ensures) (c .before .before .if4 .taken) (c .before .directed-root .ensures) .0 ∙ by-mode (s .args .control) (c .before .before .before .before .before .radicand .result / 64) (c .before .before .before .before .before .before .before .before .if1 .taken)) (omega (arith, c .placed32 .ensures))
+    ∙ sym (root-unflushed binary32 (s .args .control) (s .args .m))
+
+rounding-of-requires : tie.Need-rounding-of-requires
+rounding-of-requires c κs = search needs
 
 root32-requires : tie.Need-root32-requires
 root32-requires c κs = search needs
 
 returns-2 : tie.Need-returns-2
-returns-2 c = λ (control : ℕ). c .root32 .ensures ∙ sym (root-unflushed binary32 control (c .before .before .args .m))
+returns-2 c = c .root32 .ensures ∙ ap (λ (z : Rounding). toBits binary32 (sqrtOf z binary32 (ofBits binary32 (c .before .before .before .args .m)))) (c .before .rounding-of .ensures) ∙ sym (root-unflushed binary32 (c .before .before .before .args .control) (c .before .before .before .args .m))
 
 pub square-root32-spec : {M : Type 1} → statement M
 square-root32-spec =
     tie.close
     (tie.spec
-    mul-nearest24
-    nearest24-requires
-    add-result
-    add-result-2
-    mul-result
-    add-result-3
-    cast-result
+    mul-y
+    radicand-requires
+    inverse-requires
+    estimate24-requires
+    directed-root-requires
+    placed32-requires
     returns
+    rounding-of-requires
     root32-requires
     returns-2)

@@ -1,49 +1,60 @@
-use lib.Ieee.{binary64}
-use Prim.Native.Nat.{ℕ}
-use mathlib.Core.Path.{sym, _∙_}
-use native.Mathlib.Nat.{mul-one}
+use Rattle.roots.proofs.RootNear.{found, by-mode, near-word}
 use Rattle.roots.proofs.Laws.{root-unflushed}
-use Rattle.roots.proofs.RootNear.{near-word}
+use Rattle.roots.specs.Root.{sqrtOf}
+use Rattle.rounding.specs.declared.rounding.Rounding.the-variants.{Up, Zero}
+use Rattle.rounding.specs.declared.rounding.Rounding.{Rounding}
+use Rattle.rounding.specs.Rounding.{roundingOf}
+use native.Mathlib.Nat.{mul-one}
+use Prim.Native.Nat.{_*_, _/_, _%_, _^_}
+use lib.Dec.{eqb}
+use lib.Ieee.{binary64, ofBits, toBits}
 use native.Mathlib.Omega.{arith}
+use mathlib.Core.Bool.{cond}
+use mathlib.Core.Path.{sym, ap, _∙_}
 use borrow.Author.Needs.{needs}
 use Rattle.roots.proofs.root.square_root64.Statement.{statement}
 use Rattle.roots.proofs.root.square_root64.Tie as tie
 
-nearest53-requires : tie.Need-nearest53-requires
-nearest53-requires c κs = search needs
+radicand-requires : tie.Need-radicand-requires
+radicand-requires c κs = search needs
 
-add-result : tie.Need-add-result
-add-result c = search needs
+inverse-requires : tie.Need-inverse-requires
+inverse-requires c κs = search needs
 
-add-result-2 : tie.Need-add-result-2
-add-result-2 c = search needs
+estimate53-requires : tie.Need-estimate53-requires
+estimate53-requires c κs = search needs
 
-mul-result : tie.Need-mul-result
-mul-result c = search needs
+directed-root-requires : tie.Need-directed-root-requires
+directed-root-requires c κs = (c .before .estimate53 .ensures .small, c .before .estimate53 .ensures .room (c .if4 .taken))
 
-add-result-3 : tie.Need-add-result-3
-add-result-3 c = search needs
+placed64-requires : tie.Need-placed64-requires
+placed64-requires c κs = (c .before .before .before .before .before .if3 .taken, found (cond (eqb (c .before .before .before .before .before .before .before .before .args .control / 2 ^ 22 % 4) 1) Up Zero) _ _ _ _ _ _ (c .before .before .estimate53 .ensures) (c .before .if4 .taken) (c .directed-root .ensures) .1)
 
 returns : tie.Need-returns
-returns c = λ (control : ℕ).
-    near-word binary64 (c .before .before .before .before .args .m) _ _ (c .before .nearest53 .result) _ (c .before .before .before .if1 .taken) (c .before .before .if2 .taken) (sym (mul-one _)) (omega arith) (c .before .nearest53 .ensures .is (c .if3 .taken)) (omega arith)
-    ∙ sym (root-unflushed binary64 control (c .before .before .before .before .args .m))
+returns c = let s = c .before .before .before .before .before .before .before .before .before in
+    near-word (roundingOf (s .args .control)) binary64 (s .args .m) _ (c .before .before .before .before .before .radicand .result * 2 ^ 52) _ _ (c .before .before .before .before .before .before .before .if2 .taken) (c .before .before .before .before .before .before .if3 .taken) (sym (mul-one _)) (omega (arith, c .before .before .before .before .before .radicand .ensures .0))
+    (found (cond (eqb (s .args .control / 2 ^ 22 % 4) 1) Up Zero) _ _ _ _ _ _ (c .before .before .before .estimate53 .ensures) (c .before .before .if4 .taken) (c .before .directed-root .ensures) .0 ∙ by-mode (s .args .control) (c .before .before .before .before .before .radicand .result * 2 ^ 52) (c .before .before .before .before .before .before .before .before .if1 .taken)) (omega (arith, c .placed64 .ensures))
+    ∙ sym (root-unflushed binary64 (s .args .control) (s .args .m))
+
+rounding-of-requires : tie.Need-rounding-of-requires
+rounding-of-requires c κs = search needs
 
 root64-requires : tie.Need-root64-requires
 root64-requires c κs = search needs
 
 returns-2 : tie.Need-returns-2
-returns-2 c = λ (control : ℕ). c .root64 .ensures ∙ sym (root-unflushed binary64 control (c .before .before .args .m))
+returns-2 c = c .root64 .ensures ∙ ap (λ (z : Rounding). toBits binary64 (sqrtOf z binary64 (ofBits binary64 (c .before .before .before .args .m)))) (c .before .rounding-of .ensures) ∙ sym (root-unflushed binary64 (c .before .before .before .args .control) (c .before .before .before .args .m))
 
 pub square-root64-spec : {M : Type 1} → statement M
 square-root64-spec =
     tie.close
     (tie.spec
-    nearest53-requires
-    add-result
-    add-result-2
-    mul-result
-    add-result-3
+    radicand-requires
+    inverse-requires
+    estimate53-requires
+    directed-root-requires
+    placed64-requires
     returns
+    rounding-of-requires
     root64-requires
     returns-2)

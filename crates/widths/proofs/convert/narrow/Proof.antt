@@ -1,6 +1,9 @@
-use Rattle.widths.proofs.Narrow.{kept-most, narrow-normal, narrow-is}
 use mathlib.Core.Path.{refl}
 use native.Mathlib.Omega.{arith}
+use Rattle.rounding.specs.Rounding.{roundingOf}
+use Rattle.rounding.specs.declared.rounding.Rounding.the-variants.{Nearest}
+use Rattle.rounding.proofs.Cutting.{mode-nearest}
+use Rattle.widths.proofs.Narrow.{normal-most, normal-lowered, narrow-normal, narrow-is}
 use borrow.Author.Needs.{needs}
 use Rattle.widths.proofs.convert.narrow.Statement.{statement}
 use Rattle.widths.proofs.convert.narrow.Tie as tie
@@ -15,13 +18,39 @@ mul-result : tie.Need-mul-result
 mul-result c = search needs
 
 add-result : tie.Need-add-result
-add-result c = omega (arith, kept-most _ _ _ (c .before .cut .ensures) (omega arith))
+add-result c = let s = c .before .before .before .before .before in
+    omega (arith, normal-most Nearest (s .args .b) (c .before .before .before .if2 .taken) (c .before .before .if3 .taken) _ (c .before .cut .ensures .kept-is))
 
 cast-result : tie.Need-cast-result
-cast-result c = omega (arith, kept-most _ _ _ (c .before .cut .ensures) (omega arith))
+cast-result c = let s = c .before .before .before .before .before in
+    omega (arith, normal-most Nearest (s .args .b) (c .before .before .before .if2 .taken) (c .before .before .if3 .taken) _ (c .before .cut .ensures .kept-is))
 
 returns : tie.Need-returns
-returns c = narrow-normal (c .before .before .before .before .args .b) (c .before .before .before .if1 .taken) (c .before .before .if2 .taken) (c .before .before .before .before .args .control) _ _ _ (c .before .before .before .before .fits .b .fits) (c .before .cut .ensures) refl
+returns c = let s = c .before .before .before .before .before in
+    narrow-normal _ (s .args .b) (c .before .before .before .if2 .taken) (c .before .before .if3 .taken) (s .args .control) _ _ (mode-nearest (s .args .control) (c .before .before .before .before .if1 .taken)) (s .fits .b .fits) (c .before .cut .ensures .kept-is) refl
+
+directed-requires : tie.Need-directed-requires
+directed-requires c κs = search needs
+
+sub-kept : tie.Need-sub-kept
+sub-kept c = let s = c .before .before .before .before in normal-lowered (roundingOf (s .args .control)) (s .args .b) (c .before .before .if4 .taken) (c .before .if5 .taken) _ (c .directed .ensures) .0
+
+mul-result-2 : tie.Need-mul-result-2
+mul-result-2 c = search needs
+
+add-result-2 : tie.Need-add-result-2
+add-result-2 c = search needs
+
+cast-result-2 : tie.Need-cast-result-2
+cast-result-2 c = let s = c .before .before .before .before in
+    omega (arith, normal-most (roundingOf (s .args .control)) (s .args .b) (c .before .before .if4 .taken) (c .before .if5 .taken) _ (normal-lowered (roundingOf (s .args .control)) (s .args .b) (c .before .before .if4 .taken) (c .before .if5 .taken) _ (c .directed .ensures) .1))
+
+returns-2 : tie.Need-returns-2
+returns-2 c = let s = c .before .before .before .before in
+    narrow-normal _ (s .args .b) (c .before .before .if4 .taken) (c .before .if5 .taken) (s .args .control) _ _ refl (s .fits .b .fits) (normal-lowered (roundingOf (s .args .control)) (s .args .b) (c .before .before .if4 .taken) (c .before .if5 .taken) _ (c .directed .ensures) .1) refl
+
+rounding-of-requires : tie.Need-rounding-of-requires
+rounding-of-requires c κs = search needs
 
 narrowed32-requires : tie.Need-narrowed32-requires
 narrowed32-requires c κs = search needs
@@ -29,8 +58,8 @@ narrowed32-requires c κs = search needs
 flush32-requires : tie.Need-flush32-requires
 flush32-requires c κs = search needs
 
-returns-2 : tie.Need-returns-2
-returns-2 c = narrow-is (c .before .before .before .args .control) (c .before .before .before .args .b) _ _ (c .before .narrowed32 .ensures .bits-are) (c .flush32 .ensures)
+returns-3 : tie.Need-returns-3
+returns-3 c = let s = c .before .before .before .before in narrow-is (s .args .control) _ (s .args .b) _ _ (c .before .before .rounding-of .ensures) (c .before .narrowed32 .ensures .bits-are) (c .flush32 .ensures)
 
 pub narrow-spec : {M : Type 1} → statement M
 narrow-spec =
@@ -42,6 +71,13 @@ narrow-spec =
     add-result
     cast-result
     returns
+    directed-requires
+    sub-kept
+    mul-result-2
+    add-result-2
+    cast-result-2
+    returns-2
+    rounding-of-requires
     narrowed32-requires
     flush32-requires
-    returns-2)
+    returns-3)
