@@ -70,6 +70,7 @@ pub(crate) fn arithmetic_singles(
     }
 }
 
+// The loops of doubles count the registers that they go on, so that the compiler does not take them apart.
 pub(crate) fn arithmetic_doubles(
     marks: u64,
     control: u32,
@@ -82,16 +83,16 @@ pub(crate) fn arithmetic_doubles(
     ensures { λ y. ⌜ MarksIterated (iterationsOf binary64 control (d .0)) (dyadicStep binary64 control kind (d .0) (n .0) (m .0)) marks y ⌝ }
 {
     let vector = Vector::new(control, true, d.0);
-    let count = vector.iterations;
+    let end = vector.iterations * vector.stride;
     let mut done = marks;
     let mut dn = d.0;
     let mut nn = n.0;
     let mut mn = m.0;
-    let mut i: usize = 0;
+    let mut far: usize = 0;
     loop {
         done = mark_sum_double(done, kind, Double(dn), Double(nn), Double(mn));
-        i += 1;
-        if i >= count {
+        far += vector.stride;
+        if far >= end {
             return done;
         }
         dn = vector.step(dn, 1);
@@ -127,15 +128,15 @@ pub(crate) fn copy_doubles(marks: u64, control: u32, d: Double, m: Double) -> u6
     ensures { λ y. ⌜ ((one : ℕ → ℕ → Step) → Copies binary64 one → MarksIterated (iterationsOf binary64 control (d .0)) (monadicStep binary64 control one (d .0) (m .0)) marks y) ⌝ }
 {
     let vector = Vector::new(control, true, d.0);
-    let count = vector.iterations;
+    let end = vector.iterations * vector.stride;
     let mut done = marks;
     let mut dn = d.0;
     let mut mn = m.0;
-    let mut i: usize = 0;
+    let mut far: usize = 0;
     loop {
         done = copy_double(done, Double(dn), Double(mn));
-        i += 1;
-        if i >= count {
+        far += vector.stride;
+        if far >= end {
             return done;
         }
         dn = vector.step(dn, 1);
@@ -149,15 +150,15 @@ pub(crate) fn root_doubles(marks: u64, control: u32, d: Double, m: Double) -> u6
     ensures { λ y. ⌜ MarksIterated (iterationsOf binary64 control (d .0)) (monadicStep binary64 control (rootStep binary64 control) (d .0) (m .0)) marks y ⌝ }
 {
     let vector = Vector::new(control, true, d.0);
-    let count = vector.iterations;
+    let end = vector.iterations * vector.stride;
     let mut done = marks;
     let mut dn = d.0;
     let mut mn = m.0;
-    let mut i: usize = 0;
+    let mut far: usize = 0;
     loop {
         done = mark_double(done, Double(dn), double_known(done, Double(mn)));
-        i += 1;
-        if i >= count {
+        far += vector.stride;
+        if far >= end {
             return done;
         }
         dn = vector.step(dn, 1);

@@ -4,16 +4,16 @@ use native.Mathlib.Omega.{arith}
 use lib.Ieee.{binary64}
 use Rattle.arithmetic_steps.specs.Arithmetic.{arithmeticStep}
 use Rattle.processing_marks.proofs.Steps.{onMarks}
-use Rattle.short_vectors.proofs.Loop.{Iterating, initially, d-steps, n-steps, m-steps, again, finally}
+use Rattle.short_vectors.proofs.Loop.{Reaching, reach, reach-none, reach-on, reach-few, d-steps, n-steps, m-steps, reach-again, reach-end}
 use borrow.Author.Needs.{needs}
 use Rattle.processing_marks.proofs.vector.arithmetic_doubles.Statement.{statement}
 use Rattle.processing_marks.proofs.vector.arithmetic_doubles.Tie as tie
 
 abbrev Inv-loop : tie.InvT-loop
-Inv-loop marks control kind vector count done₀ dn₀ nn₀ mn₀ i₀ done dn nn mn i = Iterating onMarks binary64 control (arithmeticStep binary64 control kind) dn₀ nn₀ mn₀ vector done₀ done dn nn mn i
+Inv-loop marks control kind vector end done₀ dn₀ nn₀ mn₀ far₀ done dn nn mn far = Reaching onMarks binary64 control (arithmeticStep binary64 control kind) dn₀ nn₀ mn₀ vector done₀ done dn nn mn far
 
 abbrev μ-loop : tie.MeasureT-loop
-μ-loop marks control kind vector count done₀ dn₀ nn₀ mn₀ i₀ done dn nn mn i = count - i
+μ-loop marks control kind vector end done₀ dn₀ nn₀ mn₀ far₀ done dn nn mn far = end - far
 
 pub arithmetic-doubles-spec : {M : Type 1} → statement M
 arithmetic-doubles-spec =
@@ -22,12 +22,13 @@ arithmetic-doubles-spec =
     Inv-loop
     μ-loop
     (λ c κs. search needs)
-    (λ c. initially (c .new .ensures) (omega arith) (omega arith) (omega arith))
+    (λ c. omega (arith, reach (c .before .new .ensures)))
+    (λ c. reach-none (c .before .new .ensures) (omega arith) (omega arith) (omega arith))
     (λ c κs. search needs)
-    (λ c. omega arith)
-    (λ c. finally (c .before .before .loop .inv) (c .before .mark-sum-double .ensures (c .before .before .before .before .args .control)) (c .if1 .taken))
-    (λ c κs. d-steps (c .before .before .loop .inv))
-    (λ c κs. n-steps (c .before .before .before .loop .inv))
-    (λ c κs. m-steps (c .before .before .before .before .loop .inv))
-    (λ c. omega arith)
-    (λ c. again (c .before .before .before .before .before .loop .inv) (c .before .before .before .before .mark-sum-double .ensures (c .before .before .before .before .before .before .before .args .control)) (omega arith) (c .before .before .step .ensures) (c .before .step2 .ensures) (c .second .ensures)))
+    (λ c. omega (arith, reach-few (c .before .before .loop .inv)))
+    (λ c. reach-end (c .before .before .before .loop .inv) (c .before .before .mark-sum-double .ensures (c .before .before .before .before .before .before .args .control)) (c .if1 .taken))
+    (λ c κs. d-steps (c .before .before .before .loop .inv .here))
+    (λ c κs. n-steps (c .before .before .before .before .loop .inv .here))
+    (λ c κs. m-steps (c .before .before .before .before .before .loop .inv .here))
+    (λ c. omega (arith, reach-on (c .before .before .before .before .before .before .loop .inv)))
+    (λ c. reach-again (c .before .before .before .before .before .before .loop .inv) (c .before .before .before .before .before .mark-sum-double .ensures (c .before .before .before .before .before .before .before .before .before .args .control)) (omega arith) (c .before .before .step .ensures) (c .before .step2 .ensures) (c .second .ensures)))
