@@ -1,6 +1,7 @@
 /* modes CASES SEED: the unit's arithmetic, roots, narrowing and conversions from integers in the four rounding modes, against this machine's floats
- * under fesetround. Each case draws an operation, a mode, FZ and operands, and goes through fpu_data_processing or fpu_run. NaNs count as one. A result
- * that FZ flushes is flushed here too. It prints how many cases of each operation were compared and how many differ, and fails where one does.
+ * under fesetround. Each case draws an operation, a mode, FZ, DN and operands, and goes through fpu_data_processing or fpu_run. NaNs count as one, and
+ * the unit's has to be the default NaN where DN is set. A result that FZ flushes is flushed here too. It prints how many cases of each operation were
+ * compared and how many differ, and fails where one does.
  * To be compiled with -frounding-math -ffp-contract=off. */
 #include "fpu.h"
 
@@ -232,6 +233,7 @@ int main(int count, char **given)
     uint64_t wrong = 0;
     for (uint64_t i = 0; i < cases; i++) {
         int operation = (int)below(OPERATIONS), width = operation == NARROW ? 0 : (int)below(2), mode = (int)below(4), fz = below(4) == 0;
+        int dn = (int)below(2);
         /* the width of the operand m, and of n and d */
         int from = operation == NARROW ? 1 : operation >= SIGNED ? 0 : width;
         const struct format *f = &formats[from], *to = &formats[width];
@@ -256,7 +258,7 @@ int main(int count, char **given)
         /* d is register 1 of its precision, n 4 and m 6: no two share a word */
         uint32_t state[FPU_STATE_WORDS], answer[FPU_ANSWER_WORDS], window[1] = {0};
         fpu_new(state, FPU_STATE_WORDS);
-        state[FPU_PLACE_FPSCR_CONTROL] = (uint32_t)mode << 22 | (uint32_t)fz << 24;
+        state[FPU_PLACE_FPSCR_CONTROL] = (uint32_t)mode << 22 | (uint32_t)fz << 24 | (uint32_t)dn << 25;
         put(state, width, 1, d);
         put(state, from, 4, n);
         put(state, from, 6, m);
@@ -265,14 +267,14 @@ int main(int count, char **given)
             word |= field(from, 4, 16, 7);
         uint32_t said = i % 2 ? fpu_run(state, FPU_STATE_WORDS, window, 1, 0, 0, &word, 1, answer, FPU_ANSWER_WORDS)
                               : fpu_data_processing(state, FPU_STATE_WORDS, 0, word, answer, FPU_ANSWER_WORDS);
-        uint64_t got = get(state, width, 1);
+        uint64_t left = get(state, width, 1), got = dn ? left : one_nan(to, left);
         compared[operation][width][mode]++;
         if (said != FPU_FINISHED || got != want) {
             differ[operation][width]++;
             if (wrong++ < 20)
-                printf("differs: %s, %s, mode %d, FZ %d: n %016llX m %016llX d %016llX: expected %016llX, got %016llX (%u)\n", operations[operation].name,
-                       width ? "double" : "single", mode, fz, (unsigned long long)n, (unsigned long long)m, (unsigned long long)d,
-                       (unsigned long long)want, (unsigned long long)got, said);
+                printf("differs: %s, %s, mode %d, FZ %d, DN %d: n %016llX m %016llX d %016llX: expected %016llX, got %016llX (%u)\n", operations[operation].name,
+                       width ? "double" : "single", mode, fz, dn, (unsigned long long)n, (unsigned long long)m, (unsigned long long)d,
+                       (unsigned long long)want, (unsigned long long)left, said);
         }
     }
     for (int operation = 0; operation < OPERATIONS; operation++)

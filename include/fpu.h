@@ -28,7 +28,7 @@ extern "C" {
 #define FPU_PLACE_S0 0
 #define FPU_PLACE_R0 32
 #define FPU_PLACE_FPSCR_FLAGS 48   /* FPSCR bits 31:28, in position */
-#define FPU_PLACE_FPSCR_CONTROL 49 /* FPSCR bits 27:0; 23:22 is the rounding mode of all that rounds */
+#define FPU_PLACE_FPSCR_CONTROL 49 /* FPSCR bits 27:0; 23:22 is the rounding mode of all that rounds, and with 25 set every NaN result is the default NaN */
 #define FPU_PLACE_FPEXC 50
 #define FPU_PLACE_NZCV 51 /* the condition flags, in bits 31:28 */
 

@@ -1,5 +1,6 @@
 -- What one step of a word does to the words of its registers, over the precision.
 use Prim.Native.Nat.{ℕ, _%_, _/_, _^_}
+use native.Mathlib.Omega.{arith}
 use mathlib.Core.Path.{_≡_, refl, ap, _∙_}
 use mathlib.Core.Bool.{Bool, true, false, cond}
 use mathlib.Core.List.{[], _∷_}
@@ -8,11 +9,10 @@ use Rattle.machine.specs.Registers.{doubleOf}
 use Rattle.machine.specs.Place.{State, get, put, sWord, lowWord, highWord}
 use Rattle.meaning.specs.Step.{step, fst, snd, rest}
 use Rattle.numbers.specs.declared.arithmetic.Arithmetic.{Arithmetic}
-use Rattle.numbers.specs.Arithmetic.{applied, accumulates}
+use Rattle.numbers.specs.Arithmetic.{accumulates}
 use Rattle.floats.specs.Flush.{flush}
 use Rattle.directed.specs.Directed.{appliedBy, arithmeticBy}
-use Rattle.directed.proofs.Control.{without-d, by-native, kept}
-use Rattle.rounding.specs.Rounding.{roundingOf}
+use Rattle.directed.proofs.Control.{without-d, kept}
 use Rattle.short_vectors.specs.Register.{wordsOf, valuesOf, written}
 use Rattle.arithmetic_steps.specs.Arithmetic.{arithmeticStep}
 
@@ -38,18 +38,13 @@ arithmetic-step f c kind d n m st = by f (accumulates kind) refl
     by binary32 false e = ap (store binary32 st d) (without-d binary32 c kind (fetch binary32 st n) (fetch binary32 st m) 0 (fetch binary32 st d) e)
     by binary64 false e = ap (store binary64 st d) (without-d binary64 c kind (fetch binary64 st n) (fetch binary64 st m) 0 (fetch binary64 st d) e)
 
--- where FPSCR bits 24:22 are clear
-pub unflushed-step : (f : Format) (c : ℕ) (kind : Arithmetic) (d n m : ℕ) (st : State) → c / 2 ^ 22 % 8 ≡ 0
-    → step (arithmeticStep f c kind d n m) st ≡ store f st d (applied f kind (fetch f st n) (fetch f st m) (fetch f st d))
-unflushed-step f c kind d n m st h = arithmetic-step f c kind d n m st ∙ ap (store f st d) (kept f c kind (fetch f st n) (fetch f st m) (fetch f st d) h)
-
--- in mode 00
-pub native-step : (f : Format) (c : ℕ) (kind : Arithmetic) (d n m : ℕ) (st : State) → c / 2 ^ 22 % 4 ≡ 0
-    → step (arithmeticStep f c kind d n m) st ≡ store f st d (flush f c (applied f kind (fetch f st n) (fetch f st m) (fetch f st d)))
-native-step f c kind d n m st h = arithmetic-step f c kind d n m st ∙ ap (store f st d) (by-native f c kind (fetch f st n) (fetch f st m) (fetch f st d) h)
-
--- by integers
+-- by the result before flushing
 pub rounded-step : (f : Format) (c : ℕ) (kind : Arithmetic) (d n m : ℕ) (st : State)
-    → step (arithmeticStep f c kind d n m) st ≡ store f st d (flush f c (appliedBy (roundingOf c) f kind (fetch f st n) (fetch f st m) (fetch f st d)))
+    → step (arithmeticStep f c kind d n m) st ≡ store f st d (flush f c (appliedBy f c kind (fetch f st n) (fetch f st m) (fetch f st d)))
 unfolding arithmeticBy
 rounded-step f c kind d n m st = arithmetic-step f c kind d n m st
+
+-- where FPSCR bits 24:22 are clear
+pub unflushed-step : (f : Format) (c : ℕ) (kind : Arithmetic) (d n m : ℕ) (st : State) → c / 2 ^ 22 % 8 ≡ 0
+    → step (arithmeticStep f c kind d n m) st ≡ store f st d (appliedBy f c kind (fetch f st n) (fetch f st m) (fetch f st d))
+unflushed-step f c kind d n m st h = arithmetic-step f c kind d n m st ∙ ap (store f st d) (kept f c kind (fetch f st n) (fetch f st m) (fetch f st d) (omega arith))

@@ -1,7 +1,7 @@
 // The arithmetic: iterations in turn, each reading what earlier ones wrote. FPSCR bits 24:22, FZ and the rounding mode, tell which way a step goes: where
 // all are zero, native floats whose result is stored as it is; in mode 00, native floats; else integer work.
 ghost use mathlib.Core.Path.{_≡_};
-ghost use Prim.Native.Nat.{ℕ, _/_, _%_, _^_, _<_};
+ghost use Prim.Native.Nat.{_/_, _%_, _^_, _<_};
 ghost use lib.Ieee.{binary32, binary64};
 ghost use Rattle.short_vectors.specs.Vector.{iterationsOf};
 ghost use Rattle.short_vectors.specs.Register.{Stepped, Iterated};
@@ -10,6 +10,8 @@ use super::register::get;
 use super::register::put;
 use directed::arithmetic::arithmetic32;
 use directed::arithmetic::arithmetic64;
+use directed::arithmetic::native32;
+use directed::arithmetic::native64;
 use directed::directed::directed32;
 use directed::directed::directed64;
 use floats::flush::flush32;
@@ -19,20 +21,24 @@ use machine::registers::Single;
 use machine::registers::get_double;
 use machine::registers::set_double;
 use numbers::arithmetic::Arithmetic;
-use numbers::arithmetic::applied32;
-use numbers::arithmetic::applied64;
-use rounding::rounding::rounding_of;
 use short_vectors::vector::Vector;
 
 // A step where FPSCR bits 24:22 are zero.
-pub fn unflushed_single(s: &mut [u32; 32], kind: Arithmetic, d: Single, n: Single, m: Single)
-    requires { ⌜ (d .0 < 32) × (n .0 < 32) × (m .0 < 32) ⌝ }
-    ensures { λ _. ⌜ ((control : ℕ) → control / 2 ^ 22 % 8 ≡ 0 → Stepped (arithmeticStep binary32 control kind (d .0) (n .0) (m .0)) (now (s .entry)) (now (s .exit))) ⌝ }
+pub fn unflushed_single(
+    s: &mut [u32; 32],
+    control: u32,
+    kind: Arithmetic,
+    d: Single,
+    n: Single,
+    m: Single,
+)
+    requires { ⌜ (d .0 < 32) × (n .0 < 32) × (m .0 < 32) × (control / 2 ^ 22 % 8 ≡ 0) ⌝ }
+    ensures { λ _. ⌜ Stepped (arithmeticStep binary32 control kind (d .0) (n .0) (m .0)) (now (s .entry)) (now (s .exit)) ⌝ }
 {
     let a = get(s, n);
     let b = get(s, m);
     let old = get(s, d);
-    let x = applied32(kind, a, b, old);
+    let x = native32(control, kind, a, b, old);
     put(s, d, x);
 }
 
@@ -51,7 +57,7 @@ pub fn native_single(
     let a = get(s, n);
     let b = get(s, m);
     let old = get(s, d);
-    let x = flush32(control, applied32(kind, a, b, old));
+    let x = flush32(control, native32(control, kind, a, b, old));
     put(s, d, x);
 }
 
@@ -70,7 +76,7 @@ pub fn rounded_single(
     let a = get(s, n);
     let b = get(s, m);
     let old = get(s, d);
-    let x = flush32(control, directed32(rounding_of(control), kind, a, b, old));
+    let x = flush32(control, directed32(control, kind, a, b, old));
     put(s, d, x);
 }
 
@@ -113,7 +119,7 @@ fn unflushed_singles(
     let mut mn = m.0;
     let mut far: usize = 0;
     loop {
-        unflushed_single(s, kind, Single(dn), Single(nn), Single(mn));
+        unflushed_single(s, control, kind, Single(dn), Single(nn), Single(mn));
         far += vector.stride;
         if far >= end {
             return;
@@ -157,13 +163,21 @@ pub fn arithmetic_singles(
     }
 }
 
-pub fn unflushed_double(s: &mut [u32; 32], kind: Arithmetic, d: Double, n: Double, m: Double)
-    ensures { λ _. ⌜ ((control : ℕ) → control / 2 ^ 22 % 8 ≡ 0 → Stepped (arithmeticStep binary64 control kind (d .0) (n .0) (m .0)) (now (s .entry)) (now (s .exit))) ⌝ }
+pub fn unflushed_double(
+    s: &mut [u32; 32],
+    control: u32,
+    kind: Arithmetic,
+    d: Double,
+    n: Double,
+    m: Double,
+)
+    requires { ⌜ (control / 2 ^ 22 % 8 ≡ 0) ⌝ }
+    ensures { λ _. ⌜ Stepped (arithmeticStep binary64 control kind (d .0) (n .0) (m .0)) (now (s .entry)) (now (s .exit)) ⌝ }
 {
     let a = get_double(s, n);
     let b = get_double(s, m);
     let old = get_double(s, d);
-    let x = applied64(kind, a, b, old);
+    let x = native64(control, kind, a, b, old);
     set_double(s, d, x);
 }
 
@@ -181,7 +195,7 @@ pub fn native_double(
     let a = get_double(s, n);
     let b = get_double(s, m);
     let old = get_double(s, d);
-    let x = flush64(control, applied64(kind, a, b, old));
+    let x = flush64(control, native64(control, kind, a, b, old));
     set_double(s, d, x);
 }
 
@@ -198,7 +212,7 @@ pub fn rounded_double(
     let a = get_double(s, n);
     let b = get_double(s, m);
     let old = get_double(s, d);
-    let x = flush64(control, directed64(rounding_of(control), kind, a, b, old));
+    let x = flush64(control, directed64(control, kind, a, b, old));
     set_double(s, d, x);
 }
 
@@ -237,7 +251,7 @@ fn unflushed_doubles(
     let mut mn = m.0;
     let mut far: usize = 0;
     loop {
-        unflushed_double(s, kind, Double(dn), Double(nn), Double(mn));
+        unflushed_double(s, control, kind, Double(dn), Double(nn), Double(mn));
         far += vector.stride;
         if far >= end {
             return;

@@ -1,11 +1,11 @@
 -- Document 01's proved values, each computed. Assumes nothing.
 use mathlib.Core.Path.{refl}
-use lib.Ieee.{ofBits, toBits, eq, lt, isNan}
+use lib.Ieee.{ofBits, toBits, nanBits, eq, lt, isNan}
 use Rattle.machine.specs.Window.{wordAt}
 use Rattle.numbers.specs.Compare.{compareFlags}
 use Rattle.floats.specs.Flush.{flush}
 use Rattle.rounding.specs.Rounding.{roundingOf, rounded}
-use Rattle.widths.specs.Convert.{narrowed, narrow}
+use Rattle.widths.specs.Convert.{narrowed, narrowNumber, narrow}
 use Rattle.integers.specs.Integer.{integerOf, toInteger}
 use Rattle.meaning.specs.Step.{after}
 use Rattle.meaning.specs.Tree.{plain}
@@ -17,7 +17,7 @@ use Rattle.limits.specs.Limit.{windowLimit}
 use Rattle.claims.specs.Values.{Values}
 
 pub values : Values
-unfolding dataTree operationTree operationOf operationBy extensionBy stepOf secondOf after plain toInteger integerOf roundingOf compareFlags narrow narrowed rounded flush ofBits toBits eq lt isNan loadStoreTree accessTree wordAt windowLimit
+unfolding dataTree operationTree operationOf operationBy extensionBy stepOf secondOf after plain toInteger integerOf roundingOf compareFlags narrow narrowNumber narrowed rounded flush ofBits toBits nanBits eq lt isNan loadStoreTree accessTree wordAt windowLimit
 values =
     record {
       two-and-a-half = λ v. refl;

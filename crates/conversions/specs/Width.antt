@@ -7,9 +7,9 @@ use Rattle.widths.specs.Convert.{narrow, widen}
 use Rattle.meaning.specs.Step.{Step, fst, rest}
 use Rattle.short_vectors.specs.Register.{wordsOf, valuesOf, written}
 
--- narrowing rounds by the mode and flushes, so FPSCR 27:0 is a source
+-- narrowing rounds by the mode and flushes, and of both a NaN goes by bit 25, so FPSCR 27:0 is a source
 abbrev pub widenStep : ℕ → ℕ → Step
-widenStep d m = written binary64 d (wordsOf binary32 (m ∷ [])) (λ vs. widen (fst vs))
+widenStep d m = written binary64 d (control ∷ wordsOf binary32 (m ∷ [])) (λ vs. widen (fst vs) (fst (valuesOf binary32 (rest vs))))
 
 abbrev pub narrowStep : ℕ → ℕ → Step
 narrowStep d m =

@@ -1,5 +1,5 @@
 // Between single and double.
-ghost use Rattle.short_vectors.specs.Register.{Stepped, SteppedWith};
+ghost use Rattle.short_vectors.specs.Register.{SteppedWith};
 ghost use Rattle.conversions.specs.Width.{widenStep, narrowStep};
 use machine::registers::Double;
 use machine::registers::Single;
@@ -10,10 +10,10 @@ use machine::registers::set_single;
 use widths::convert::narrow;
 use widths::convert::widen;
 
-pub fn widen_single(s: &mut [u32; 32], d: Double, m: Single)
-    ensures { λ _. ⌜ Stepped (widenStep (d .0) (m .0)) (now (s .entry)) (now (s .exit)) ⌝ }
+pub fn widen_single(s: &mut [u32; 32], fpscr: u32, d: Double, m: Single)
+    ensures { λ _. ⌜ SteppedWith (widenStep (d .0) (m .0)) fpscr (now (s .entry)) fpscr (now (s .exit)) ⌝ }
 {
-    let x = widen(get_single(s, m));
+    let x = widen(fpscr % 0x1000_0000, get_single(s, m));
     set_double(s, d, x);
 }
 

@@ -23,8 +23,11 @@ use Rattle.operators.specs.Operators.{zeroSign, sumOf, sum, difference, product
 use Rattle.operators.proofs.Sums.{sum-at}
 use Rattle.operators.proofs.Values.{product-at, quotient-at}
 use Rattle.directed.specs.Directed.{appliedBy, arithmeticBy}
-use Rattle.directed.proofs.Applying.{word-of-value}
-use Rattle.widths.specs.Convert.{narrowed, narrow}
+use Rattle.directed.proofs.Values.{applied-value, number-applied}
+use Rattle.directed.proofs.Control.{kept}
+use Rattle.nans.specs.Nan.{resized}
+use Rattle.nans.proofs.Choosing.{valued-number}
+use Rattle.widths.specs.Convert.{narrowed, narrow, narrowNumber}
 use Rattle.integers.specs.Integer.{integerValue, fromInteger}
 use Rattle.correct_rounding.specs.Operations.{sumSize, sumSign, negative, magnitude, Correct}
 use Rattle.numbers.specs.declared.arithmetic.Arithmetic.{Arithmetic}
@@ -75,10 +78,6 @@ differences mode f x y s t a b c C h k = sums mode f x (neg y) s (not t) a b c C
 
 -- ---- as it is stored
 
-stored : (f : Format) (control : ℕ) (kind : Arithmetic) (n m d : ℕ) → control / 2 ^ 24 % 2 ≡ 0 → arithmeticBy f control kind n m d ≡ appliedBy (roundingOf control) f kind n m d
-unfolding arithmeticBy
-stored f control kind n m d z = sym (flush-off f control (appliedBy (roundingOf control) f kind n m d) z)
-
 -- ---- conversions
 
 integer-of : (f : Format) (mode : Rounding) (signed : Bool) (w : ℕ) → integerValue mode f signed w ≡ rounded mode f (negative signed w) (magnitude signed w) 1
@@ -112,10 +111,14 @@ narrowing mode f x s a c C h = correct mode f s a c (narrowed mode f x) C (narro
 
 double-to-single : (control b : ℕ) (s : Bool) (a c : ℕ) → 0 < c → control / 2 ^ 24 % 2 ≡ 0 → HasValue (ofBits binary64 b) s a c
     → CorrectlyRounded (roundingOf control) binary32 s (ratio a c) (narrow control b)
-unfolding narrow
+unfolding narrow narrowNumber
 double-to-single control b s a c C z h =
     let mode = roundingOf control in
-    subst (CorrectlyRounded mode binary32 s (ratio a c)) (flush-off binary32 control (toBits binary32 (narrowed mode binary32 (ofBits binary64 b))) z) (narrowing mode binary32 (ofBits binary64 b) s a c C h)
+    let word = toBits binary32 (narrowed mode binary32 (ofBits binary64 b)) in
+    subst (CorrectlyRounded mode binary32 s (ratio a c))
+    (flush-off binary32 control word z
+    ∙ sym (ap (λ (t : Bool). cond t (resized binary64 binary32 control b) (flush binary32 control word)) (valued-number binary64 b s a c h)))
+    (narrowing mode binary32 (ofBits binary64 b) s a c C h)
 
 pub numbers-correct : Correct
 numbers-correct =
@@ -124,8 +127,9 @@ numbers-correct =
       differences = differences;
       products = λ mode f x y s t a b c d C D h k. correct mode f (unlike s t) (a * b) (c * d) (product mode f x y) (mul-pos C D) (product-at mode f x y s t a c b d C D h k);
       quotients = λ mode f x y s t a b c d C D B h k. correct mode f (unlike s t) (a * d) (b * c) (quotient mode f x y) (mul-pos B C) (quotient-at mode f x y s t a c b d C D B h k);
-      word-of-value = word-of-value;
-      stored-as-it-is = stored;
+      value-of-word = applied-value;
+      numbers-untouched = number-applied;
+      stored-as-it-is = kept;
       from-integer = from-integer;
       to-double-exact = to-double-exact;
       narrowing = narrowing;

@@ -3,13 +3,14 @@ use Prim.Native.Nat.{ℕ, _+_, _-_, _*_, _/_, _%_, _^_, _<_}
 use mathlib.Core.Path.{_≡_}
 use mathlib.Core.Bool.{Bool, not, Bool·beq, _&&_, cond}
 use lib.Dec.{leb, ltb}
-use lib.Ieee.{Float, Format, binary32, binary64, unlike, ofBits, toBits}
+use lib.Ieee.{Float, Format, binary32, binary64, top, unlike, ofBits, toBits}
 use lib.Ieee.Exact.{HasValue}
 use Rattle.rounding.specs.Rounding.{roundingOf, cutTo, Names, apart}
 use Rattle.correct_rounding.specs.Rounded.{ratio, CorrectlyRounded}
 use Rattle.rounding.specs.declared.rounding.Rounding.{Rounding}
 use Rattle.operators.specs.Operators.{zeroSign, sum, difference, product, quotient}
 use Rattle.directed.specs.Directed.{applyBy, appliedBy, arithmeticBy}
+use Rattle.nans.specs.Nan.{defaultNan}
 use Rattle.widths.specs.Convert.{narrowed, narrow, widen}
 use Rattle.integers.specs.Integer.{fromInteger, clamped, toInteger}
 use Rattle.numbers.specs.declared.arithmetic.Arithmetic.{Arithmetic}
@@ -38,10 +39,15 @@ pub record Correct : Type 0 where
       → CorrectlyRounded mode f (unlike s t) (ratio (a * b) (c * d)) (toBits f (product mode f x y))
   pub quotients : (mode : Rounding) (f : Format) (x y : Float) (s t : Bool) (a b c d : ℕ) → 0 < c → 0 < d → 0 < b → HasValue x s a c → HasValue y t b d
       → CorrectlyRounded mode f (unlike s t) (ratio (a * d) (b * c)) (toBits f (quotient mode f x y))
-  -- a result's word is that of its value: where an operand is a NaN, the default NaN's
-  pub word-of-value : (mode : Rounding) (f : Format) (kind : Arithmetic) (n m d : ℕ) → appliedBy mode f kind n m d ≡ toBits f (applyBy mode f kind (ofBits f n) (ofBits f m) (ofBits f d))
+  -- a result's value is that of the operators on its operands' values, and a result that is no NaN is that value's word, whatever bit 25
+  pub value-of-word : (f : Format) (control : ℕ) (kind : Arithmetic) (n m d : ℕ) → n < 2 * top f → m < 2 * top f → d < 2 * top f
+      → ofBits f (appliedBy f control kind n m d) ≡ applyBy (roundingOf control) f kind (ofBits f n) (ofBits f m) (ofBits f d)
+  pub numbers-untouched : (f : Format) (control : ℕ) (kind : Arithmetic) (n m d : ℕ) → n < 2 * top f → m < 2 * top f → d < 2 * top f
+      → (toBits f (applyBy (roundingOf control) f kind (ofBits f n) (ofBits f m) (ofBits f d)) ≡ defaultNan f → ⊥)
+      → toBits f (applyBy (roundingOf control) f kind (ofBits f n) (ofBits f m) (ofBits f d)) ≡ appliedBy f control kind n m d
   -- and with FZ clear it is what is stored
-  pub stored-as-it-is : (f : Format) (control : ℕ) (kind : Arithmetic) (n m d : ℕ) → control / 2 ^ 24 % 2 ≡ 0 → arithmeticBy f control kind n m d ≡ appliedBy (roundingOf control) f kind n m d
+  pub stored-as-it-is : (f : Format) (control : ℕ) (kind : Arithmetic) (n m d : ℕ) → control / 2 ^ 24 % 2 ≡ 0
+      → arithmeticBy f control kind n m d ≡ appliedBy f control kind n m d
   -- an integer to either format, and to a double exactly
   pub from-integer : (f : Format) (mode : Rounding) (signed : Bool) (w : ℕ) → CorrectlyRounded mode f (negative signed w) (ratio (magnitude signed w) 1) (fromInteger f mode signed w)
   pub to-double-exact : (mode : Rounding) (signed : Bool) (w : ℕ) → w < 2 ^ 32 → HasValue (ofBits binary64 (fromInteger binary64 mode signed w)) (negative signed w) (magnitude signed w) 1
@@ -51,7 +57,7 @@ pub record Correct : Type 0 where
   pub double-to-single : (control b : ℕ) (s : Bool) (a c : ℕ) → 0 < c → control / 2 ^ 24 % 2 ≡ 0 → HasValue (ofBits binary64 b) s a c
       → CorrectlyRounded (roundingOf control) binary32 s (ratio a c) (narrow control b)
   -- a single to a double is the same value
-  pub single-to-double : (b : ℕ) → ofBits binary64 (widen b) ≡ ofBits binary32 b
+  pub single-to-double : (control b : ℕ) → b < 2 ^ 32 → ofBits binary64 (widen control b) ≡ ofBits binary32 b
   -- to an integer: the whole number that the mode names, brought into the range
   pub to-integer : (f : Format) (mode : Rounding) (signed : Bool) (b : ℕ) (s : Bool) (a c : ℕ) → 0 < c → HasValue (ofBits f b) s a c
       → (toInteger f mode signed b ≡ clamped signed s (cutTo mode s a c)) × Names mode s a c (cutTo mode s a c)

@@ -1,6 +1,6 @@
 -- The crate's laws that belong to no one function. Assumes nothing.
 pub mod Negation
 pub mod Fitting
-pub mod Applying
+pub mod Values
 pub mod Nearest
 pub mod Control

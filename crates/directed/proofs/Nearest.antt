@@ -1,15 +1,18 @@
 -- At `Nearest` the arithmetic of one step is that of `numbers`, which native floats do. Assumes nothing.
-use mathlib.Core.Path.{_≡_, refl, ap, _∙_}
-use mathlib.Core.Bool.{cond}
-use Prim.Native.Nat.{ℕ, _/_, _%_, _^_}
+use mathlib.Core.Path.{_≡_, refl, sym, ap, _∙_}
+use Prim.Native.Nat.{ℕ, _*_, _/_, _%_, _^_, _<_}
 use borrow.Author.Tests.{eq-eqb}
-use lib.Ieee.{Float, Format, neg, add, sub, ofBits, toBits}
+use lib.Ieee.{Float, Format, top, neg, add, sub, ofBits, toBits}
 use Rattle.rounding.specs.Rounding.{roundingOf}
+use Rattle.rounding.specs.declared.rounding.Rounding.{Rounding}
 use Rattle.rounding.specs.declared.rounding.Rounding.the-variants.{Nearest}
+use Rattle.nans.specs.Nan.{defaultNan}
 use Rattle.operators.specs.Operators.{sum, difference, product, quotient}
-use Rattle.numbers.specs.Arithmetic.{apply, defaultNan, anyNan, applied}
+use Rattle.numbers.specs.Arithmetic.{apply, applied}
 use Rattle.numbers.specs.declared.arithmetic.Arithmetic.{Arithmetic}
 use Rattle.numbers.specs.declared.arithmetic.Arithmetic.the-variants.{MultiplyAccumulate, MultiplySubtract, NegateMultiplySubtract, NegateMultiplyAccumulate, Multiply, NegateMultiply, Add, Subtract, Divide}
+use Rattle.numbers.proofs.Applying.{word-of-value}
+use Rattle.directed.proofs.Values.{number-applied}
 use Rattle.operators.proofs.Nearest.{sum-nearest, difference-nearest, product-nearest, quotient-nearest}
 use Rattle.directed.specs.Directed.{applyBy, appliedBy}
 
@@ -24,12 +27,19 @@ apply-nearest f Add n m d = sum-nearest f n m
 apply-nearest f Subtract n m d = difference-nearest f n m
 apply-nearest f Divide n m d = quotient-nearest f n m
 
--- the integer arithmetic at nearest even gives the native result's word
-pub applied-nearest : (f : Format) (kind : Arithmetic) (n m d : ℕ) → appliedBy Nearest f kind n m d ≡ applied f kind n m d
-unfolding appliedBy applied
-applied-nearest f kind n m d = ap (λ (v : Float). cond (anyNan f kind n m d) (defaultNan f) (toBits f v)) (apply-nearest f kind (ofBits f n) (ofBits f m) (ofBits f d))
-
 -- mode 00
 pub mode-nearest : (control : ℕ) → control / 2 ^ 22 % 4 ≡ 0 → roundingOf control ≡ Nearest
 unfolding roundingOf
 mode-nearest control h = rw (eq-eqb (control / 2 ^ 22 % 4) 0 h) refl
+
+-- a native result that is no NaN is the word by any setting of mode 00
+pub native-applied : (f : Format) (control : ℕ) (kind : Arithmetic) (n m d : ℕ) → n < 2 * top f → m < 2 * top f → d < 2 * top f → control / 2 ^ 22 % 4 ≡ 0
+    → (applied f kind n m d ≡ defaultNan f → ⊥) → applied f kind n m d ≡ appliedBy f control kind n m d
+native-applied f control kind n m d p q r z h = same ∙ number-applied f control kind n m d p q r (λ e. h (same ∙ e))
+  where
+    same : applied f kind n m d ≡ toBits f (applyBy (roundingOf control) f kind (ofBits f n) (ofBits f m) (ofBits f d))
+    same =
+        word-of-value f kind n m d
+        ∙ ap (toBits f)
+        (sym (apply-nearest f kind (ofBits f n) (ofBits f m) (ofBits f d))
+        ∙ ap (λ (mode : Rounding). applyBy mode f kind (ofBits f n) (ofBits f m) (ofBits f d)) (sym (mode-nearest control z)))

@@ -8,7 +8,7 @@ use native.Mathlib.Omega.{arith}
 use lib.Count.{leadingZeros}
 use lib.Dec.{leb, ltb, eqb, lit≤, lit<}
 use lib.Pow.{pow-add, pow-pos, pow-mono}
-use lib.Ieee.{Float, nan, inf, fin, Format, binary32, binary64, up, down, hid, ones, top, ofBits, toBits}
+use lib.Ieee.{Float, nan, inf, fin, Format, binary32, binary64, up, down, hid, ones, top, ofBits, toBits, nanBits}
 use lib.Ieee.Fits.{down-pos, fits-widens}
 use lib.Ieee.Bits.{ofBits-toBits, ofBits-fits}
 use lib.Ieee.Exact.{HasValue}
@@ -16,12 +16,14 @@ use borrow.Author.Tests.{le-leb, lt-leb, le-ltb}
 use Rattle.rounding.specs.Rounding.{cutTo, rounded, IsCut}
 use Rattle.packing.specs.Pack.{ceiling, packed, IsSettled}
 use Rattle.integers.specs.Integer.{fromInteger, clamped, integerOf, toInteger}
-use Rattle.widths.specs.Convert.{widen}
+use Rattle.widths.specs.Convert.{widenNumber, widen}
+use Rattle.nans.specs.Nan.{resized}
+use Rattle.nans.proofs.Choosing.{nan-word, resized-nan}
 use Rattle.rounding.specs.Lift.{Lifted}
 use Rattle.rounding.specs.declared.rounding.Rounding.{Rounding}
 use Rattle.rounding.specs.declared.rounding.Rounding.the-variants.{Nearest}
 use Rattle.floats.proofs.Units.{Lead, slide, reads-low, reads-normal, reads-inf}
-use Rattle.floats.proofs.Patterns.{nan-of-fields}
+use Rattle.floats.proofs.Patterns.{nan-of-fields, reads-nan}
 use Rattle.rounding.proofs.Cutting.{move-ge, cut-le, cut-same, cut-far, cut-exact}
 use Rattle.packing.proofs.Written.{ceiling-ge, rounded-bits, exact-is, over-is, tiny-is}
 use Rattle.packing.proofs.Settle.{settled-same}
@@ -237,10 +239,16 @@ module _ (mode : Rounding) (g : Bool) (b r : ℕ) where
 
 -- ---- a single, widened
 
-pub widened-value : (b : ℕ) → ofBits binary64 (widen b) ≡ ofBits binary32 b
-unfolding widen
-widened-value b = ofBits-toBits binary64 (ofBits binary32 b) (fits-widens (ofBits binary32 b) (ofBits-fits binary32 b))
+pub widened-value : (control b : ℕ) → b < 2 ^ 32 → ofBits binary64 (widen control b) ≡ ofBits binary32 b
+unfolding widen widenNumber
+widened-value control b l = by (nanBits binary32 b) refl
+  where
+    by : (t : Bool) → nanBits binary32 b ≡ t → ofBits binary64 (cond t (resized binary32 binary64 control b) (toBits binary64 (ofBits binary32 b))) ≡ ofBits binary32 b
+    by true e =
+        reads-nan binary64 (resized binary32 binary64 control b) (nan-word binary64 (resized binary32 binary64 control b) (resized-nan binary32 binary64 control b l))
+        ∙ sym (reads-nan binary32 b e)
+    by false e = ofBits-toBits binary64 (ofBits binary32 b) (fits-widens (ofBits binary32 b) (ofBits-fits binary32 b))
 
-pub by-widening : (mode : Rounding) (g : Bool) (b r w : ℕ) → w ≡ widen b → r ≡ toInteger binary64 mode g w → r ≡ toInteger binary32 mode g b
+pub by-widening : (mode : Rounding) (g : Bool) (control b r w : ℕ) → b < 2 ^ 32 → w ≡ widen control b → r ≡ toInteger binary64 mode g w → r ≡ toInteger binary32 mode g b
 unfolding toInteger
-by-widening mode g b r w e p = p ∙ ap (λ (z : ℕ). integerOf mode g (ofBits binary64 z)) e ∙ ap (integerOf mode g) (widened-value b)
+by-widening mode g control b r w l e p = p ∙ ap (λ (z : ℕ). integerOf mode g (ofBits binary64 z)) e ∙ ap (integerOf mode g) (widened-value control b l)

@@ -128,5 +128,5 @@ pub fn to_integer64(mode: Rounding, signed: bool, b: u64) -> u32
 pub fn to_integer32(mode: Rounding, signed: bool, b: u32) -> u32
     ensures { λ r. ⌜ r ≡ toInteger binary32 mode signed b ⌝ }
 {
-    to_integer64(mode, signed, widen(b))
+    to_integer64(mode, signed, widen(0, b))
 }

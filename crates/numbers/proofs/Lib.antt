@@ -1,5 +1,4 @@
 -- The crate's laws that belong to no one function. Assumes nothing.
 pub mod Flags
 pub mod Applying
-pub mod Laws
 pub mod Values

@@ -1,7 +1,7 @@
 -- The arithmetic of one step. Assumes nothing.
-use Prim.Native.Nat.{ℕ, _+_, _*_, _/_}
-use mathlib.Core.Bool.{Bool, true, false, _&&_, cond, _||_}
-use lib.Ieee.{Float, Format, add, sub, mul, div, neg, ofBits, toBits, nanBits, hid, ones}
+use Prim.Native.Nat.{ℕ}
+use mathlib.Core.Bool.{Bool, true, false}
+use lib.Ieee.{Float, Format, add, sub, mul, div, neg, ofBits, toBits}
 use Rattle.numbers.specs.declared.arithmetic.Arithmetic.{Arithmetic}
 use Rattle.numbers.specs.declared.arithmetic.Arithmetic.the-variants.{MultiplyAccumulate, MultiplySubtract, NegateMultiplySubtract, NegateMultiplyAccumulate, Multiply, NegateMultiply, Add, Subtract, Divide}
 
@@ -29,14 +29,6 @@ accumulates Add = false
 accumulates Subtract = false
 accumulates Divide = false
 
--- 0x7FC00000, 0x7FF8000000000000
-abbrev pub defaultNan : Format → ℕ
-defaultNan f = ones f * hid f + hid f / 2
-
--- whether an operand that the kind reads is a NaN
-abbrev pub anyNan : Format → Arithmetic → ℕ → ℕ → ℕ → Bool
-anyNan f kind n m d = nanBits f n || (nanBits f m || (accumulates kind && nanBits f d))
-
--- the result's word before flushing
+-- the result's word before flushing, by which every NaN is the default one
 unfoldable pub applied : Format → Arithmetic → ℕ → ℕ → ℕ → ℕ
-applied f kind n m d = cond (anyNan f kind n m d) (defaultNan f) (toBits f (apply f kind (ofBits f n) (ofBits f m) (ofBits f d)))
+applied f kind n m d = toBits f (apply f kind (ofBits f n) (ofBits f m) (ofBits f d))

@@ -115,9 +115,9 @@ module _ (f : Format) (w : ℕ) (s : List ℕ) (fpscr : ℕ) (s′ : List ℕ) (
 
 -- between the widths: coprocessor 10 widens, 11 narrows
 module _ (w : ℕ) (s : List ℕ) (fpscr : ℕ) (s′ : List ℕ) (o : Operation) {d m : ℕ} where
-  pub widened : d ≡ regD binary64 w → m ≡ regM binary32 w → o ≡ Fcvt → Stepped (widenStep d m) s s′ → Does binary32 w s fpscr s′ o fpscr
+  pub widened : d ≡ regD binary64 w → m ≡ regM binary32 w → o ≡ Fcvt → SteppedWith (widenStep d m) fpscr s fpscr s′ → Does binary32 w s fpscr s′ o fpscr
   unfolding operationTree
-  widened d′ m′ e = stepped binary32 w s fpscr s′ o d′ m′ widenStep (λ thumb. rw e)
+  widened d′ m′ e = stepped-with binary32 w s fpscr s′ o d′ m′ widenStep (λ thumb. rw e)
 
   pub narrowed : d ≡ regD binary32 w → m ≡ regM binary64 w → o ≡ Fcvt → SteppedWith (narrowStep d m) fpscr s fpscr s′ → Does binary64 w s fpscr s′ o fpscr
   unfolding operationTree

@@ -85,7 +85,7 @@ pub(crate) fn process_single(s: &mut [u32; 32], fpscr: u32, op: u32, o: Operatio
             Processed::Done(next)
         }
         Operation::Fcvt => {
-            widen_single(s, double_d(op), single_m(op));
+            widen_single(s, fpscr, double_d(op), single_m(op));
             Processed::Done(fpscr)
         }
         Operation::Fuito => {

@@ -57,7 +57,7 @@ module _ (μ : Map) where
   pub compare-zero-marks : (f : Format) (d : ℕ) → stepMarks (compareZeroStep f d) μ ≡ mark μ flags (knownIn f μ d)
   compare-zero-marks f d = ap (mark μ flags) (all-known f (d ∷ []))
 
-  pub widen-marks : (d m : ℕ) → stepMarks (widenStep d m) μ ≡ markIn binary64 μ d (knownIn binary32 μ m)
+  pub widen-marks : (d m : ℕ) → stepMarks (widenStep d m) μ ≡ markIn binary64 μ d (knownIn binary32 μ m && known μ control)
   widen-marks d m = refl
 
   pub narrow-marks : (d m : ℕ) → stepMarks (narrowStep d m) μ ≡ markIn binary32 μ d (knownIn binary64 μ m && known μ control)

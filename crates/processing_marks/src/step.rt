@@ -92,7 +92,7 @@ pub fn mark_from_integer(marks: u64, double: bool, op: u32) -> u64
     mark_single(marks, single_d(op), all & is_known(marks, CONTROL))
 }
 
-// Narrowing needs FPSCR 27:0, since it rounds and flushes; widening does not.
+// Both need FPSCR 27:0: narrowing rounds and flushes, and a NaN goes by bit 25.
 pub fn mark_convert(marks: u64, double: bool, op: u32) -> u64
     ensures { λ y. ⌜ MarksStepped (convertStep (precision double) op) marks y ⌝ }
 {
@@ -100,7 +100,7 @@ pub fn mark_convert(marks: u64, double: bool, op: u32) -> u64
         let all = double_known(marks, double_m(op)) & is_known(marks, CONTROL);
         return mark_single(marks, single_d(op), all);
     }
-    let all = single_known(marks, single_m(op));
+    let all = single_known(marks, single_m(op)) & is_known(marks, CONTROL);
     mark_double(marks, double_d(op), all)
 }
 

@@ -4,8 +4,9 @@ use mathlib.Core.Path.{_≡_}
 use mathlib.Core.Logic.{_⊎_}
 use mathlib.Core.Bool.{Bool, true, false, cond}
 use lib.Dec.{leb, ltb, eqb}
-use lib.Ieee.{Float, nan, inf, fin, Format, low, up, down, size, ofBits, toBits}
+use lib.Ieee.{Float, nan, inf, fin, Format, low, up, down, size, ofBits, toBits, nanBits}
 use Rattle.floats.specs.Flush.{flush}
+use Rattle.nans.specs.Nan.{nanOf}
 use Rattle.rounding.specs.Rounding.{roundingOf, move, settled, dropped}
 use Rattle.rounding.specs.declared.rounding.Rounding.{Rounding}
 
@@ -38,9 +39,14 @@ sqrtOf mode f (inf s) = cond s nan (inf s)
 sqrtOf mode f (fin s zero e) = fin s zero e
 sqrtOf mode f (fin s (suc m) e) = cond s nan (rootOf mode f (suc m * up e) (down e))
 
--- rounded by the mode, and stored as a result is
+-- of a word that is no NaN: rounded by the mode, and stored as a result is
+unfoldable pub rootNumber : Format → ℕ → ℕ → ℕ
+rootNumber f control m = flush f control (toBits f (sqrtOf (roundingOf control) f (ofBits f m)))
+
+-- of any word
 unfoldable pub squareRoot : Format → ℕ → ℕ → ℕ
-squareRoot f control m = flush f control (toBits f (sqrtOf (roundingOf control) f (ofBits f m)))
+unfolding rootNumber nanOf
+squareRoot f control m = cond (nanBits f m) (nanOf f control m m) (rootNumber f control m)
 
 -- a root's digits and what is left, of a number n
 pub record IsRoot (n root rest : ℕ) : Type 0 where

@@ -1,10 +1,14 @@
 // Square roots on whole numbers: by an estimate that is checked, or a binary digit at a time.
 ghost use mathlib.Core.Path.{_≡_};
-ghost use mathlib.Core.Bool.{cond};
+ghost use mathlib.Core.Bool.{false, cond};
 ghost use Prim.Native.Nat.{_+_, _*_, _/_, _%_, _≤_, _<_, _^_};
-ghost use lib.Ieee.{binary32, binary64, ofBits, toBits};
+ghost use lib.Ieee.{binary32, binary64, ofBits, toBits, nanBits};
 ghost use Rattle.rounding.specs.declared.rounding.Rounding.the-variants.{Nearest, Up, Zero};
 ghost use Rattle.roots.specs.Root.{IsRoot, IsRooted, IsRoundedRoot, IsEstimate, radicand, sqrtOf, squareRoot};
+use floats::word::is_nan32;
+use floats::word::is_nan64;
+use nans::nan::nan_of32;
+use nans::nan::nan_of64;
 use rounding::lift::lift;
 use rounding::rounding::Rounded;
 use rounding::rounding::Rounding;
@@ -260,7 +264,7 @@ fn placed64(m: u64, kept: u64) -> u64
 
 // The root of a normal value to nearest, by an estimate that is checked, or 0 where that is too far off, or the value is not normal.
 pub fn quick_root32(m: u32) -> u32
-    ensures { λ r. ⌜ (0 < r → r ≡ toBits binary32 (sqrtOf Nearest binary32 (ofBits binary32 m))) ⌝ }
+    ensures { λ r. ⌜ (0 < r → (nanBits binary32 m ≡ false) × (r ≡ toBits binary32 (sqrtOf Nearest binary32 (ofBits binary32 m)))) ⌝ }
 {
     let w = m as u64;
     if w >= 0x80_0000 {
@@ -277,7 +281,7 @@ pub fn quick_root32(m: u32) -> u32
 }
 
 pub fn quick_root64(m: u64) -> u64
-    ensures { λ r. ⌜ (0 < r → r ≡ toBits binary64 (sqrtOf Nearest binary64 (ofBits binary64 m))) ⌝ }
+    ensures { λ r. ⌜ (0 < r → (nanBits binary64 m ≡ false) × (r ≡ toBits binary64 (sqrtOf Nearest binary64 (ofBits binary64 m)))) ⌝ }
 {
     if m >= 0x10_0000_0000_0000 {
         if m < 0x7FF0_0000_0000_0000 {
@@ -311,6 +315,9 @@ pub fn square_root32(control: u32, m: u32) -> u32
             }
         }
     }
+    if is_nan32(m) {
+        return nan_of32(control, m, m);
+    }
     root32(rounding_of(control), m)
 }
 
@@ -329,6 +336,9 @@ pub fn square_root64(control: u32, m: u64) -> u64
                 }
             }
         }
+    }
+    if is_nan64(m) {
+        return nan_of64(control, m, m);
     }
     root64(rounding_of(control), m)
 }

@@ -29,7 +29,7 @@ pub fn scalar_single(s: &mut [u32; 32], fpscr: u32, number: u8, op: u32)
     let n = single_n(op);
     let m = single_m(op);
     if fpscr / 0x40_0000 % 8 == 0 {
-        unflushed_single(s, kind, d, n, m);
+        unflushed_single(s, fpscr % 0x1000_0000, kind, d, n, m);
         return;
     }
     if fpscr / 0x40_0000 % 4 == 0 {
@@ -48,7 +48,7 @@ pub fn scalar_double(s: &mut [u32; 32], fpscr: u32, number: u8, op: u32)
     let n = double_n(op);
     let m = double_m(op);
     if fpscr / 0x40_0000 % 8 == 0 {
-        unflushed_double(s, kind, d, n, m);
+        unflushed_double(s, fpscr % 0x1000_0000, kind, d, n, m);
         return;
     }
     if fpscr / 0x40_0000 % 4 == 0 {

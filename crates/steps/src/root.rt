@@ -38,8 +38,6 @@ pub fn root_single(s: &mut [u32; 32], control: u32, d: Single, m: Single)
             set_single(s, d, x);
             return;
         }
-        store_root_single(s, 0, d, b);
-        return;
     }
     store_root_single(s, control, d, b);
 }
@@ -61,8 +59,6 @@ pub fn root_double(s: &mut [u32; 32], control: u32, d: Double, m: Double)
             set_double(s, d, x);
             return;
         }
-        store_root_double(s, 0, d, b);
-        return;
     }
     store_root_double(s, control, d, b);
 }

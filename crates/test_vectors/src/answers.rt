@@ -57,7 +57,7 @@ fn single(w: Work) -> u64 {
     match op {
         0x20 => wide(square_root32(w.control, a)),
         0x21 => wide(compare32(a, low(w.m))),
-        0x22 => widen(a),
+        0x22 => widen(w.control, a),
         0x23 => wide(from_integer32(w.control, true, a)),
         0x24 => wide(from_integer32(w.control, false, a)),
         0x25 => wide(to_integer32(rounding_of(w.control), true, a)),
@@ -95,36 +95,4 @@ pub fn answer(w: Work) -> u64 {
         return single(w);
     }
     double(w)
-}
-
-// Every NaN of a single's word, or of a double's, as the default one.
-fn one_nan32(b: u64) -> u64 {
-    if b % 0x8000_0000 > 0x7F80_0000 {
-        return 0x7FC0_0000;
-    }
-    b
-}
-
-fn one_nan64(b: u64) -> u64 {
-    if b % 0x8000_0000_0000_0000 > 0x7FF0_0000_0000_0000 {
-        return 0x7FF8_0000_0000_0000;
-    }
-    b
-}
-
-// The expected word, a NaN as the default one where the result is a float.
-pub fn expected(op: u64, b: u64) -> u64 {
-    if op < 0x10 {
-        return one_nan32(b);
-    }
-    if op < 0x20 {
-        return one_nan64(b);
-    }
-    match op {
-        0x20 => one_nan32(b),
-        0x32 => one_nan32(b),
-        0x22 => one_nan64(b),
-        0x30 => one_nan64(b),
-        _ => b,
-    }
 }

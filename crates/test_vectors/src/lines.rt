@@ -1,7 +1,6 @@
 // A file of lines of hexadecimal numbers, a byte at a time.
 use super::answers::Work;
 use super::answers::answer;
-use super::answers::expected;
 use libc::STDOUT_FILENO;
 
 // What a file's lines hold: so many operands and the result, for one operation and one control word; with 0 operands
@@ -97,7 +96,7 @@ fn differs(w: Work, want: u64, got: u64) {
 
 fn compare(sort: Sort, numbers: [u64; 8], compared: u64, differ: u64) -> Tally {
     let w = work(sort, numbers);
-    let want = expected(w.op, result(sort, numbers));
+    let want = result(sort, numbers);
     let got = answer(w);
     if want == got {
         return next(more(compared), differ);

@@ -1,4 +1,4 @@
-// Runs published vectors, named boundary cases and signs of zeros through every function on numbers. It prints each line that differs with its input, and for
+// Runs published vectors, named boundary cases, signs of zeros and NaNs through every function on numbers. It prints each line that differs with its input, and for
 // each file how many lines were compared and how many differ.
 mod answers;
 mod lines;
@@ -242,6 +242,7 @@ fn doubles_and_integers() {
 fn main() {
     file(b"boundaries", 0, 0, 0);
     file(b"zeros", 0, 0, 0);
+    file(b"nans", 0, 0, 0);
     singles();
     singles_and_integers();
     doubles();

@@ -342,7 +342,7 @@ fn widths(t: Tally) -> Tally {
         t,
         extension_word(7, 1, false),
         0,
-        one(0, place(17), d(true, 0)),
+        one(0, place(17) | place(CONTROL), d(true, 0)),
     );
     case(
         u,

@@ -44,7 +44,7 @@ pub fn unary_single(s: &mut [u32; 32], fpscr: u32, op: u32, o: Operation) -> u32
         Operation::Fcmp | Operation::Fcmpe => compare_single(s, fpscr, single_d(op), single_m(op)),
         Operation::Fcmpz | Operation::Fcmpez => compare_single_zero(s, fpscr, single_d(op)),
         Operation::Fcvt => {
-            widen_single(s, double_d(op), single_m(op));
+            widen_single(s, fpscr, double_d(op), single_m(op));
             fpscr
         }
         Operation::Fuito => {

@@ -60,7 +60,7 @@ pub fn watch_single(s: &mut [u32; 32], marks: u64, fpscr: u32, op: u32, o: Opera
             after(next, mark_compare_zero(marks, false, op))
         }
         Operation::Fcvt => {
-            widen_single(s, double_d(op), single_m(op));
+            widen_single(s, fpscr, double_d(op), single_m(op));
             after(fpscr, mark_convert(marks, false, op))
         }
         Operation::Fuito => {

@@ -1,4 +1,4 @@
--- What callers need: no result is longer than its word, and a widened single is never subnormal, so that flushing does not change it. Assumes nothing.
+-- Of numbers: no result is longer than its word, and a widened single is never subnormal, so that flushing would not change it. Assumes nothing.
 use mathlib.Core.Path.{_≡_, sym, subst}
 use mathlib.Core.Logic.{_⊎_, inl, inr}
 use Prim.Native.Nat.{ℕ, zero, _+_, _-_, _*_, _/_, _%_, _^_, _≤_, _<_}
@@ -16,13 +16,13 @@ use Rattle.floats.proofs.Flushing.{NotSubnormal, flush-none, flush-lt}
 use Rattle.packing.proofs.Formed.{rounded-lt}
 use Rattle.rounding.proofs.Lifting.{moved-is, lifted}
 use Rattle.packing.proofs.Words.{nan-word, inf-word}
-use Rattle.widths.specs.Convert.{narrowed, narrow, widen}
+use Rattle.widths.specs.Convert.{narrowed, narrowNumber, widenNumber}
 use Rattle.widths.proofs.Widen.{wide-inf, wide-nan, wide-mid, wide-zero, wide-low}
 
 -- ---- narrowing
 
-pub narrow-lt : (control b : ℕ) → narrow control b < 2 ^ 32
-unfolding narrow narrowed
+pub narrow-lt : (control b : ℕ) → narrowNumber control b < 2 ^ 32
+unfolding narrowNumber narrowed
 narrow-lt control b = flush-lt binary32 control _ (go (ofBits binary64 b))
   where
     go : (v : Float) → toBits binary32 (narrowed (roundingOf control) binary32 v) < 2 ^ 32
@@ -32,8 +32,8 @@ narrow-lt control b = flush-lt binary32 control _ (go (ofBits binary64 b))
 
 -- ---- widening
 
-pub widen-lt : (b : ℕ) → widen b < 2 ^ 64
-unfolding widen
+pub widen-lt : (b : ℕ) → widenNumber b < 2 ^ 64
+unfolding widenNumber
 widen-lt b = toBits-lt binary64 (ofBits binary32 b) (fits-widens (ofBits binary32 b) (ofBits-fits binary32 b))
 
 abbrev field : ℕ → ℕ
@@ -51,8 +51,8 @@ above b x h l u = inr (go b x h l u)
     go : (b x : ℕ) → b < 2 ^ 32 → 2 ^ 52 ≤ x → x < 2 ^ 63 → 2 ^ 52 ≤ (sign b + x) % 0x8000_0000_0000_0000
     go b x h l u = omega arith
 
-pub widen-not-subnormal : (b : ℕ) → b < 2 ^ 32 → NotSubnormal binary64 (widen b)
-unfolding widen
+pub widen-not-subnormal : (b : ℕ) → b < 2 ^ 32 → NotSubnormal binary64 (widenNumber b)
+unfolding widenNumber
 widen-not-subnormal b h = go (decLt 0 (field b)) (decLt (field b) 255) (decLt 0 (digits b))
   where
     big : (b : ℕ) → (field b < 255 → ⊥) → field b ≡ 255
@@ -85,17 +85,17 @@ widen-not-subnormal b h = go (decLt 0 (field b)) (decLt (field b) 255) (decLt 0 
     even : (b : ℕ) → b < 2 ^ 32 → sign b % 0x8000_0000_0000_0000 ≡ 0
     even b h = omega arith
 
-    subnormal : (r : ℕ) → field b ≡ 0 → Lifted (digits b) r → NotSubnormal binary64 (widen b)
+    subnormal : (r : ℕ) → field b ≡ 0 → Lifted (digits b) r → NotSubnormal binary64 (widenNumber b)
     subnormal r x l =
         subst (NotSubnormal binary64) (wide-low b r h x l)
         (above b ((925 - r) * 0x10_0000_0000_0000 + digits b * 2 ^ r % 2 ^ 64) h (low-low r (digits b * 2 ^ r % 2 ^ 64) (l .most))
         (low-high r (digits b * 2 ^ r % 2 ^ 64) (subst (λ (z : ℕ). z < 2 ^ 53) (sym (moved-is (digits b) r l)) (l .below))))
 
-    special : field b ≡ 255 → Dec (0 < digits b) → NotSubnormal binary64 (widen b)
+    special : field b ≡ 255 → Dec (0 < digits b) → NotSubnormal binary64 (widenNumber b)
     special x (yes q) = subst (NotSubnormal binary64) (wide-nan b x (no-zero (digits b) q)) (inr (lit≤ tt))
     special x (no n) = subst (NotSubnormal binary64) (wide-inf b h x (zero (digits b) n)) (above b 0x7FF0_0000_0000_0000 h (lit≤ tt) (lit< tt))
 
-    go : Dec (0 < field b) → Dec (field b < 255) → Dec (0 < digits b) → NotSubnormal binary64 (widen b)
+    go : Dec (0 < field b) → Dec (field b < 255) → Dec (0 < digits b) → NotSubnormal binary64 (widenNumber b)
     go (yes p) (yes l) d =
         subst (NotSubnormal binary64) (wide-mid b h p (below (field b) 255 l))
         (above b ((field b + 895) * 0x10_0000_0000_0000 + (0x80_0000 + digits b) * 0x2000_0000) h (mid-low b) (mid-high b l))
@@ -104,5 +104,5 @@ widen-not-subnormal b h = go (decLt 0 (field b)) (decLt (field b) 255) (decLt 0 
     go (no n) l (no m) = subst (NotSubnormal binary64) (wide-zero b h (zero (field b) n) (zero (digits b) m)) (inl (even b h))
 
 -- flushing a widened single changes nothing
-pub widen-unflushed : (control b : ℕ) → b < 2 ^ 32 → flush binary64 control (widen b) ≡ widen b
-widen-unflushed control b h = flush-none binary64 control (widen b) (widen-not-subnormal b h)
+pub widen-unflushed : (control b : ℕ) → b < 2 ^ 32 → flush binary64 control (widenNumber b) ≡ widenNumber b
+widen-unflushed control b h = flush-none binary64 control (widenNumber b) (widen-not-subnormal b h)

@@ -14,7 +14,9 @@ use lib.Ieee.Exact.{HasValue}
 use Rattle.floats.specs.Flush.{flush}
 use Rattle.rounding.specs.Rounding.{roundingOf, rounded, exact, over, tiny, move, cutTo, increment}
 use Rattle.packing.specs.Pack.{ceiling, packed, IsSettled}
-use Rattle.widths.specs.Convert.{narrowed, onFinite, narrow, IsNarrowed}
+use Rattle.nans.specs.Nan.{resized}
+use Rattle.nans.proofs.Choosing.{no-nan, a-nan}
+use Rattle.widths.specs.Convert.{narrowed, onFinite, narrowNumber, narrow, IsNarrowed}
 use Rattle.rounding.specs.declared.rounding.Rounding.{Rounding}
 use Rattle.rounding.specs.declared.rounding.Rounding.the-variants.{Nearest, Up, Down, Zero}
 use Rattle.floats.proofs.Units.{slide, sign-bit, reads-low, reads-normal, reads-inf}
@@ -102,9 +104,19 @@ narrow-mid mode f b bits x o t n l p =
 -- ---- flushed as a single
 
 pub narrow-is : (control : ℕ) (mode : Rounding) (b bits r : ℕ) → mode ≡ roundingOf control → bits ≡ toBits binary32 (narrowed mode binary32 (ofBits binary64 b)) → r ≡ flush binary32 control bits
-    → r ≡ narrow control b
-unfolding narrow
+    → r ≡ narrowNumber control b
+unfolding narrowNumber
 narrow-is control mode b bits r g p e = e ∙ ap (flush binary32 control) (p ∙ ap (λ (z : Rounding). toBits binary32 (narrowed z binary32 (ofBits binary64 b))) g)
+
+-- ---- any word
+
+pub narrow-number : (control b : ℕ) → b % 0x8000_0000_0000_0000 ≤ 0x7FF0_0000_0000_0000 → narrowNumber control b ≡ narrow control b
+unfolding narrow
+narrow-number control b h = sym (ap (λ (t : Bool). cond t (resized binary64 binary32 control b) (narrowNumber control b)) (no-nan binary64 b h))
+
+pub narrow-resized : (control b r : ℕ) → 0x7FF0_0000_0000_0000 < b % 0x8000_0000_0000_0000 → r ≡ resized binary64 binary32 control b → r ≡ narrow control b
+unfolding narrow
+narrow-resized control b r h e = e ∙ sym (ap (λ (t : Bool). cond t (resized binary64 binary32 control b) (narrowNumber control b)) (a-nan binary64 b h))
 
 -- ---- a normal single, or what is too large for one, from the double's pattern as it stands
 
@@ -272,8 +284,8 @@ module _ (mode : Rounding) (b : ℕ) (h : 0x3810_0000_0000_0000 ≤ b % 0x8000_0
   normal-lowered kept p = lowered mode (neg b) (b % 0x8000_0000_0000_0000) kept (omega arith) p
 
   pub narrow-normal : (control kept r : ℕ) → mode ≡ roundingOf control → b < 2 ^ 64 → kept ≡ cutTo mode (neg b) X (2 ^ 29)
-      → r ≡ b / 0x8000_0000_0000_0000 * 0x8000_0000 + kept → r ≡ narrow control b
-  unfolding narrow
+      → r ≡ b / 0x8000_0000_0000_0000 * 0x8000_0000 + kept → r ≡ narrowNumber control b
+  unfolding narrowNumber
   narrow-normal control kept r g w p e =
       let most = kept-most mode (neg b) X kept p X-lt in
       let least = kept-least mode (neg b) X kept p (lower b h) in

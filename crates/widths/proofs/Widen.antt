@@ -12,6 +12,9 @@ use lib.Ieee.Exact.{HasValue}
 use Rattle.rounding.specs.Lift.{Lifted}
 use Rattle.floats.proofs.Units.{writes, reads-low, reads-mid, reads-inf, rescale, slide, sign-bit}
 use Rattle.floats.proofs.Patterns.{nan-of-fields}
+use Rattle.nans.specs.Nan.{resized}
+use Rattle.nans.proofs.Choosing.{no-nan, a-nan}
+use Rattle.widths.specs.Convert.{widenNumber, widen}
 
 -- ---- the same value as a double
 
@@ -109,3 +112,13 @@ wide-low b r h x l =
     (wider (ofBits binary32 b) (leb (top binary32) b) (t * 2 ^ 0) q (925 - r) (reads-low binary32 b x) (slide t 0 925 r (925 - r) (zero-add 925 ∙ join r (l .most))))
     (l .below)
     (inr (l .least)))
+
+-- ---- any word
+
+pub widen-number : (control b : ℕ) → b % 0x8000_0000 ≤ 0x7F80_0000 → toBits binary64 (ofBits binary32 b) ≡ widen control b
+unfolding widen widenNumber
+widen-number control b h = sym (ap (λ (t : Bool). cond t (resized binary32 binary64 control b) (toBits binary64 (ofBits binary32 b))) (no-nan binary32 b h))
+
+pub widen-nan : (control b r : ℕ) → 0x7F80_0000 < b % 0x8000_0000 → r ≡ resized binary32 binary64 control b → r ≡ widen control b
+unfolding widen
+widen-nan control b r h e = e ∙ sym (ap (λ (t : Bool). cond t (resized binary32 binary64 control b) (widenNumber b)) (a-nan binary32 b h))

@@ -1,9 +1,10 @@
 -- Conversions between the widths. Assumes nothing.
 use Prim.Native.Nat.{ℕ, _*_}
 use mathlib.Core.Path.{_≡_}
-use mathlib.Core.Bool.{Bool, true, false}
-use lib.Ieee.{Float, nan, inf, fin, Format, binary32, binary64, up, down, ofBits, toBits}
+use mathlib.Core.Bool.{Bool, true, false, cond}
+use lib.Ieee.{Float, nan, inf, fin, Format, binary32, binary64, up, down, ofBits, toBits, nanBits}
 use Rattle.floats.specs.Flush.{flush}
+use Rattle.nans.specs.Nan.{resized}
 use Rattle.rounding.specs.Rounding.{roundingOf, rounded, exact, over, tiny}
 use Rattle.rounding.specs.declared.rounding.Rounding.{Rounding}
 
@@ -19,13 +20,22 @@ onFinite d g nan = d
 onFinite d g (inf s) = d
 onFinite d g (fin s m e) = g s (m * up e) (down e)
 
--- a double's bits as a single's word: rounded by the mode, then flushed as a single
-unfoldable pub narrow : ℕ → ℕ → ℕ
-narrow control b = flush binary32 control (toBits binary32 (narrowed (roundingOf control) binary32 (ofBits binary64 b)))
+-- a double that is no NaN as a single's word: rounded by the mode, then flushed as a single
+unfoldable pub narrowNumber : ℕ → ℕ → ℕ
+narrowNumber control b = flush binary32 control (toBits binary32 (narrowed (roundingOf control) binary32 (ofBits binary64 b)))
 
--- a single's word as the bits of the double of the same value
-unfoldable pub widen : ℕ → ℕ
-widen b = toBits binary64 (ofBits binary32 b)
+-- a single that is no NaN as the bits of the double of the same value
+unfoldable pub widenNumber : ℕ → ℕ
+widenNumber b = toBits binary64 (ofBits binary32 b)
+
+-- any word
+unfoldable pub narrow : ℕ → ℕ → ℕ
+unfolding narrowNumber
+narrow control b = cond (nanBits binary64 b) (resized binary64 binary32 control b) (narrowNumber control b)
+
+unfoldable pub widen : ℕ → ℕ → ℕ
+unfolding widenNumber
+widen control b = cond (nanBits binary32 b) (resized binary32 binary64 control b) (widenNumber b)
 
 -- what the code's narrowing gives
 pub record IsNarrowed (mode : Rounding) (f : Format) (v : Float) (bits : ℕ) (x o t : Bool) : Type 0 where

@@ -5,6 +5,8 @@ ghost use lib.Ieee.{binary32, binary64, ofBits};
 ghost use Rattle.rounding.specs.Rounding.{roundingOf, cutTo, increment, IsCut};
 ghost use Rattle.widths.specs.Convert.{IsNarrowed, narrow, widen};
 use floats::flush::flush32;
+use nans::nan::narrowed_nan;
+use nans::nan::widened_nan;
 use packing::pack::Settled32;
 use packing::pack::settle32;
 use packing::pack::sign32;
@@ -14,9 +16,9 @@ use rounding::rounding::Rounding;
 use rounding::rounding::cut;
 use rounding::rounding::rounding_of;
 
-// A single's word as the bits of the double of the same value. A subnormal is moved up by its leading zeros.
-pub fn widen(b: u32) -> u64
-    ensures { λ r. ⌜ r ≡ widen b ⌝ }
+// A single's word as the bits of the double of the same value, or its NaN. A subnormal is moved up by its leading zeros.
+pub fn widen(control: u32, b: u32) -> u64
+    ensures { λ r. ⌜ r ≡ widen control b ⌝ }
 {
     let w = b as u64;
     let sign = w / 0x8000_0000 * 0x8000_0000_0000_0000;
@@ -25,7 +27,7 @@ pub fn widen(b: u32) -> u64
         if size == 0x7F80_0000 {
             return sign + 0x7FF0_0000_0000_0000;
         }
-        return 0x7FF8_0000_0000_0000;
+        return widened_nan(control, b);
     }
     if size >= 0x80_0000 {
         return sign + (size * 0x2000_0000 + 0x3800_0000_0000_0000);
@@ -138,6 +140,9 @@ pub fn narrow(control: u32, b: u64) -> u32
                 return (b / 0x8000_0000_0000_0000 * 0x8000_0000 + kept) as u32;
             }
         }
+    }
+    if size > 0x7FF0_0000_0000_0000 {
+        return narrowed_nan(control, b);
     }
     let r = narrowed32(rounding_of(control), b);
     flush32(control, r.bits)

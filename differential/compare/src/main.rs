@@ -15,13 +15,15 @@ struct Comparison {
     wrong: u64,
     conditions: u64,
     invalid: u64,
+    nans: u64,
     theirs: Vec<u32>,
     ours: Vec<u32>,
     started: Instant,
 }
 
 impl Comparison {
-    /// One call on both sides, in mode 00 where the word rounds; state and window are left as both leave them.
+    /// One call on both sides, in mode 00 where the word rounds; a NaN result is compared as a NaN, and bit for bit where FPSCR bit 25 is set.
+    /// State and window are left as both leave them.
     fn call(&mut self, call: Call, thumb: bool, word: u32, base: u32, state: &mut [u32; STATE], window: &mut [u32]) {
         cases::to_nearest(call, word, state);
         let (mut a, mut b) = (*state, *state);
@@ -36,6 +38,10 @@ impl Comparison {
             Call::CoprocessorRegister | Call::Wrapper => fpu::raw::coprocessor_register(&mut b, thumb as u32, word, &mut answer),
             Call::LoadStore => fpu::raw::coprocessor_load_store(&mut b, &mut self.ours, base, thumb as u32, word, &mut answer),
         };
+        if call == Call::DataProcessing && oracle::payload(word, state, &b) {
+            self.nans += 1;
+            oracle::canonical(&mut b, word, state[49]);
+        }
         let width = match word >> 8 & 15 {
             10 => 0,
             11 => 1,
@@ -188,6 +194,7 @@ fn main() {
         wrong: 0,
         conditions: 0,
         invalid: 0,
+        nans: 0,
         theirs: Vec::new(),
         ours: Vec::new(),
         started: Instant::now(),
@@ -227,6 +234,7 @@ fn main() {
     println!("{:24} {:>12}", "in Thumb state", c.thumb);
     println!("{:24} {:>12}", "conditions", c.conditions);
     println!("{:24} {:>12}", "255", c.invalid);
+    println!("{:24} {:>12}", "NaNs as NaN", c.nans);
     println!("{:24} {:>12}", "calls", c.calls);
     println!("{}", cases::LEFT_OUT);
     println!("{:24} {:>12}", "disagreements", c.wrong);

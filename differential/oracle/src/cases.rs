@@ -159,7 +159,7 @@ const FIXED: [(Call, u32, u32); 46] = [
 ];
 
 /// what a comparison says that it leaves out.
-pub const LEFT_OUT: &str = "left out: transfers of opc1 1 under coprocessor 11, the high halves of doubles (2026-01); words that round, in modes 01, 10 and 11 (2026-06)";
+pub const LEFT_OUT: &str = "left out: transfers of opc1 1 under coprocessor 11, the high halves of doubles (2026-01); words that round, in modes 01, 10 and 11 (2026-06); the bits of a NaN result where FPSCR bit 25 is clear (2026-12)";
 
 /// the transfers that a comparison leaves out: opc1 1 under coprocessor 11, where vfp.rs does nothing. The unit moves the high half of a double
 /// there, by the manual (request 2026-01), and its definition judges these words.
@@ -309,8 +309,8 @@ pub fn machine(r: &mut Random, state: &mut [u32; STATE], base: u32, words: usize
     let control = match r.below(4) {
         0 => 0,
         1 => r.word(),
-        // one iteration or several, by stride 1 or 2, flushing or not, in each rounding mode
-        _ => r.below(8) << 16 | r.pick(&[0, 0, 1, 2, 3, 3]) << 20 | r.below(4) << 22 | r.below(2) << 24,
+        // one iteration or several, by stride 1 or 2, in each rounding mode, flushing or not, with default NaNs or not
+        _ => r.below(8) << 16 | r.pick(&[0, 0, 1, 2, 3, 3]) << 20 | r.below(4) << 22 | r.below(4) << 24,
     };
     state[48] = r.word() & 0xF000_0000;
     state[49] = control & 0x0FFF_FFFF;

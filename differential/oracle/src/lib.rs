@@ -144,20 +144,28 @@ fn float_targets(word: u32, fpscr: u32, mut each: impl FnMut(bool, usize)) {
     }
 }
 
-/// makes the NaNs that a word of arithmetic, root or width conversion left canonical.
-fn canonical(regs: &mut [u32; 32], word: u32, fpscr: u32) {
+/// makes the NaNs that a word of arithmetic, root or width conversion left in the registers, the first 32 words, canonical, and tells whether there is
+/// one. Their bits are the host's on the Rust's side; on the unit's they are the operands' where FPSCR bit 25 is clear (request 2026-12).
+pub fn canonical(regs: &mut [u32], word: u32, fpscr: u32) -> bool {
+    let mut found = false;
     float_targets(word, fpscr, |double, n| {
         if double {
             let (low, high) = (n * 2 % 32, (n * 2 + 1) % 32);
             if f64::from_bits((regs[high] as u64) << 32 | regs[low] as u64).is_nan() {
                 regs[low] = 0;
                 regs[high] = 0x7FF8_0000;
+                found = true;
             }
         } else if f32::from_bits(regs[n]).is_nan() {
             regs[n] = 0x7FC0_0000;
+            found = true;
         }
     });
+    found
 }
+
+/// FPSCR bit 25: the unit's NaNs are canonical too.
+pub const DEFAULT_NANS: u32 = 1 << 25;
 
 /// The kind of a call, the address and the word that it reports, and whether another part of the Cpu moved.
 pub struct Outcome {
@@ -282,6 +290,18 @@ pub fn answer(case: &Case) -> Reply {
     let o = run(&mut Cpu::new(), case.call, case.thumb, case.word, case.base, &mut state, &mut window);
     assert!(!o.moved, "another part of the Cpu moved: {}", case.line());
     Reply { kind: o.kind, address: o.address, word: o.word, state, window }
+}
+
+/// whether data_processing leaves a NaN with FPSCR bit 25 clear, given the state before and after the word: its bits are not compared.
+pub fn payload(word: u32, before: &[u32; STATE], after: &[u32; STATE]) -> bool {
+    before[49] & DEFAULT_NANS == 0 && canonical(&mut after.clone(), word, before[49])
+}
+
+/// FPSCR bit 25 where the case's word leaves a NaN, so that the unit's is canonical.
+pub fn default_nans(case: &mut Case) {
+    if case.call == Call::DataProcessing && payload(case.word, &case.state, &answer(case).state) {
+        case.state[49] |= DEFAULT_NANS;
+    }
 }
 
 /// fills the parts of the Cpu that are not in the state.

@@ -37,20 +37,25 @@ fn any_word(r: &mut Random, turn: u64) -> u32 {
 /// a word that changes nothing: VMOV.F32 s0, s0.
 const NOTHING: u32 = 0xEEB0_0A40;
 
-/// whether a word of a list rounds by another mode than 00, from this state on.
-fn directed(word: u32, state: &[u32; STATE]) -> bool {
-    word >> 24 & 15 == 14 && word >> 4 & 1 == 0 && cases::rounds(Call::DataProcessing, word) && state[49] >> 22 & 3 != 0
+/// whether a word that a run takes is not compared: it rounds by another mode than 00, or leaves a NaN whose payload would travel on. `state` stands
+/// before it, and `left` is what the Rust makes of it.
+fn left_out(word: u32, state: &[u32; STATE], left: &[u32; STATE]) -> bool {
+    let runs = word >> 24 & 15 == 14 && word >> 4 & 1 == 0 && oracle::condition(word >> 28, state[51]);
+    let directed = cases::rounds(Call::DataProcessing, word) && state[49] >> 22 & 3 != 0;
+    runs && (directed || oracle::payload(word, state, left))
 }
 
-/// the list with words that would round by another mode than 00 changed into one that changes nothing, by what the Rust makes of those before them.
-fn to_nearest(cpu: &mut Cpu, list: &mut [u32], base: u32, state: &[u32; STATE], window: &[u32]) {
+/// the list with words that `left_out` names changed into one that changes nothing, by what the Rust makes of those before them.
+fn compared(cpu: &mut Cpu, list: &mut [u32], base: u32, state: &[u32; STATE], window: &[u32]) {
     let (mut s, mut w) = (*state, window.to_vec());
     for word in list {
-        if directed(*word, &s) {
-            *word = NOTHING;
-        }
+        let before = s;
         if oracle::listed(cpu, &[*word], base, false, &mut s, &mut w).0 != 0 {
             return;
+        }
+        if left_out(*word, &before, &s) {
+            *word = NOTHING;
+            s[..32].copy_from_slice(&before[..32]);
         }
     }
 }
@@ -65,7 +70,7 @@ fn long(r: &mut Random, cpu: &mut Cpu, length: u32, base: u32, state: &[u32; STA
             let any = word(r, *turn);
             let (mut t, mut v) = (s, w.clone());
             let (kind, _) = oracle::listed(cpu, &[any], base, false, &mut t, &mut v);
-            if kind != 0 || t[50] >> 30 & 1 == 0 || directed(any, &s) {
+            if kind != 0 || t[50] >> 30 & 1 == 0 || left_out(any, &s, &t) {
                 return NOTHING;
             }
             (s, w) = (t, v);
@@ -105,7 +110,7 @@ fn main() {
                 list.push(word(&mut r, turn));
                 turn += 1;
             }
-            to_nearest(&mut cpu, &mut list, base, &state, &window);
+            compared(&mut cpu, &mut list, base, &state, &window);
         }
         let thumb = r.once_in(200);
         let (mut a, mut b, mut v, mut w) = (state, state, window.clone(), window.clone());

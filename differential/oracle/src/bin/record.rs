@@ -1,5 +1,5 @@
 //! record FILE [OF_EACH]: writes a sample of the Rust's answers, some of every operation in every width, of every answer, ARM and Thumb. The transfers
-//! that cases::left_out names are not among them, and words that round are in mode 00.
+//! that cases::left_out names are not among them, words that round are in mode 00, and those that leave a NaN have FPSCR bit 25 set.
 //! A record is 128 words of 32 bits, lowest byte first:
 //! 0 call (as Call::number, or 4: conditions), 1 thumb, 2 word, 3 base, 4 window words, 5 kind, 6 address, 7 word reported,
 //! 8 to 59 the state given, 60 to 67 the window given, 68 to 119 the state left, 120 to 127 the window left.
@@ -76,7 +76,9 @@ fn main() {
         let most = if width == 2 { of_each / 4 } else { of_each };
         if *count < most {
             *count += 1;
-            write(record(&Case { call, thumb: r.once_in(3), word, base, state, window }));
+            let mut case = Case { call, thumb: r.once_in(3), word, base, state, window };
+            oracle::default_nans(&mut case);
+            write(record(&case));
         }
     }
     for (name, counts) in OPERATIONS.iter().zip(&counts) {

@@ -5,7 +5,7 @@ use mathlib.Core.Path.{sym}
 use borrow.Author.Needs.{needs}
 use Rattle.machine.specs.Machine.{withS}
 use Rattle.machine.specs.Place.{state}
-use Rattle.arithmetic_steps.proofs.Steps.{native-step}
+use Rattle.arithmetic_steps.proofs.Steps.{rounded-step}
 use Rattle.arithmetic_steps.proofs.arithmetic.native_double.Statement.{statement}
 use Rattle.arithmetic_steps.proofs.arithmetic.native_double.Tie as tie
 
@@ -19,4 +19,4 @@ native-double-spec =
     (λ c κs. search needs)
     (λ c κs. search needs)
     (λ c κs. search needs)
-    (λ c q v. let a = c .before .before .before .before .before .before .before .before .before .before .args in rw (c .set-double .ensures, c .before .before .flush64 .ensures, c .before .before .before .applied64 .ensures, c .before .before .before .before .before .before .before .before .get-double .ensures, c .before .before .before .before .before .before .get-double2 .ensures, c .before .before .before .before .get-double3 .ensures) (sym (native-step binary64 (a .control) (a .kind) (a .d .0) (a .n .0) (a .m .0) (state (withS q (now (a .s))) v) (c .before .before .before .before .before .before .before .before .before .before .pre)))))
+    (λ c q v. let a = c .before .before .before .before .before .before .before .before .before .before .args in rw (c .set-double .ensures, c .before .before .flush64 .ensures, c .before .before .before .native64 .ensures, c .before .before .before .before .before .before .before .before .get-double .ensures, c .before .before .before .before .before .before .get-double2 .ensures, c .before .before .before .before .get-double3 .ensures) (sym (rounded-step binary64 (a .control) (a .kind) (a .d .0) (a .n .0) (a .m .0) (state (withS q (now (a .s))) v)))))

@@ -19,5 +19,4 @@ rounded-double-spec =
     (λ c κs. search needs)
     (λ c κs. search needs)
     (λ c κs. search needs)
-    (λ c κs. search needs)
-    (λ c q v. let a = c .before .before .before .before .before .before .before .before .before .before .before .args in rw (c .set-double .ensures, c .before .before .flush64 .ensures, c .before .before .before .directed64 .ensures, c .before .before .before .before .rounding-of .ensures, c .before .before .before .before .before .before .before .before .before .get-double .ensures, c .before .before .before .before .before .before .before .get-double2 .ensures, c .before .before .before .before .before .get-double3 .ensures) (sym (rounded-step binary64 (a .control) (a .kind) (a .d .0) (a .n .0) (a .m .0) (state (withS q (now (a .s))) v)))))
+    (λ c q v. let a = c .before .before .before .before .before .before .before .before .before .before .args in rw (c .set-double .ensures, c .before .before .flush64 .ensures, c .before .before .before .directed64 .ensures, c .before .before .before .before .before .before .before .before .get-double .ensures, c .before .before .before .before .before .before .get-double2 .ensures, c .before .before .before .before .get-double3 .ensures) (sym (rounded-step binary64 (a .control) (a .kind) (a .d .0) (a .n .0) (a .m .0) (state (withS q (now (a .s))) v)))))

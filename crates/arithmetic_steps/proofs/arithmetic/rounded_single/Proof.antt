@@ -19,5 +19,4 @@ rounded-single-spec =
     (λ c κs. search needs)
     (λ c κs. search needs)
     (λ c κs. search needs)
-    (λ c κs. search needs)
-    (λ c q v. let a = c .before .before .before .before .before .before .before .before .before .before .before .args in rw (c .put .ensures, c .before .before .flush32 .ensures, c .before .before .before .directed32 .ensures, c .before .before .before .before .rounding-of .ensures, c .before .before .before .before .before .before .before .before .before .get .ensures, c .before .before .before .before .before .before .before .get2 .ensures, c .before .before .before .before .before .get3 .ensures) (sym (rounded-step binary32 (a .control) (a .kind) (a .d .0) (a .n .0) (a .m .0) (state (withS q (now (a .s))) v)))))
+    (λ c q v. let a = c .before .before .before .before .before .before .before .before .before .before .args in rw (c .put .ensures, c .before .before .flush32 .ensures, c .before .before .before .directed32 .ensures, c .before .before .before .before .before .before .before .before .get .ensures, c .before .before .before .before .before .before .get2 .ensures, c .before .before .before .before .get3 .ensures) (sym (rounded-step binary32 (a .control) (a .kind) (a .d .0) (a .n .0) (a .m .0) (state (withS q (now (a .s))) v)))))

@@ -18,4 +18,4 @@ unflushed-double-spec =
     (λ c κs. search needs)
     (λ c κs. search needs)
     (λ c κs. search needs)
-    (λ c control h q v. let a = c .before .before .before .before .before .before .before .before .before .args in rw (c .set-double .ensures, c .before .before .applied64 .ensures, c .before .before .before .before .before .before .before .get-double .ensures, c .before .before .before .before .before .get-double2 .ensures, c .before .before .before .get-double3 .ensures) (sym (unflushed-step binary64 control (a .kind) (a .d .0) (a .n .0) (a .m .0) (state (withS q (now (a .s))) v) h))))
+    (λ c q v. let a = c .before .before .before .before .before .before .before .before .before .args in rw (c .set-double .ensures, c .before .before .native64 .ensures, c .before .before .before .before .before .before .before .get-double .ensures, c .before .before .before .before .before .get-double2 .ensures, c .before .before .before .get-double3 .ensures) (sym (unflushed-step binary64 (a .control) (a .kind) (a .d .0) (a .n .0) (a .m .0) (state (withS q (now (a .s))) v) (c .before .before .before .before .before .before .before .before .before .pre)))))

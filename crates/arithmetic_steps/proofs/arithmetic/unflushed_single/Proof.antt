@@ -18,4 +18,4 @@ unflushed-single-spec =
     (λ c κs. search needs)
     (λ c κs. search needs)
     (λ c κs. search needs)
-    (λ c control h q v. let a = c .before .before .before .before .before .before .before .before .before .args in rw (c .put .ensures, c .before .before .applied32 .ensures, c .before .before .before .before .before .before .before .get .ensures, c .before .before .before .before .before .get2 .ensures, c .before .before .before .get3 .ensures) (sym (unflushed-step binary32 control (a .kind) (a .d .0) (a .n .0) (a .m .0) (state (withS q (now (a .s))) v) h))))
+    (λ c q v. let a = c .before .before .before .before .before .before .before .before .before .args in rw (c .put .ensures, c .before .before .native32 .ensures, c .before .before .before .before .before .before .before .get .ensures, c .before .before .before .before .before .get2 .ensures, c .before .before .before .get3 .ensures) (sym (unflushed-step binary32 (a .control) (a .kind) (a .d .0) (a .n .0) (a .m .0) (state (withS q (now (a .s))) v) (c .before .before .before .before .before .before .before .before .before .pre .3)))))

@@ -17,7 +17,7 @@ is-nan32-requires-2 c κs = search needs
 returns-2 : tie.Need-returns-2
 returns-2 c =
     let a = c .before .before .before .before .args in
-    nan-m binary32 (a .kind) (a .n) (a .m) (a .d) (sym (c .before .before .before .is-nan32 .ensures) ∙ c .before .before .if1 .left) (sym (c .before .is-nan322 .ensures) ∙ c .if2 .taken)
+    nan-m binary32 (a .kind) (a .n) (a .m) (a .d) (sym (c .before .is-nan322 .ensures) ∙ c .if2 .taken)
 
 operands32-requires : tie.Need-operands32-requires
 operands32-requires c κs = search needs

@@ -17,7 +17,7 @@ is-nan64-requires-2 c κs = search needs
 returns-2 : tie.Need-returns-2
 returns-2 c =
     let a = c .before .before .before .before .args in
-    nan-m binary64 (a .kind) (a .n) (a .m) (a .d) (sym (c .before .before .before .is-nan64 .ensures) ∙ c .before .before .if1 .left) (sym (c .before .is-nan642 .ensures) ∙ c .if2 .taken)
+    nan-m binary64 (a .kind) (a .n) (a .m) (a .d) (sym (c .before .is-nan642 .ensures) ∙ c .if2 .taken)
 
 operands64-requires : tie.Need-operands64-requires
 operands64-requires c κs = search needs

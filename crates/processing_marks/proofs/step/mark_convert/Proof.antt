@@ -23,4 +23,5 @@ mark-convert-spec =
     (λ c κs. search needs)
     (λ c κs. search needs)
     (λ c κs. search needs)
-    (λ c w. let a = c .before .before .before .before .before .args in rw (c .before .before .before .before .if1 .left) (c .mark-double .ensures w ∙ rw (c .before .before .single-known .ensures w, c .before .double-d .ensures .0, c .before .before .before .single-m .ensures .0) (sym (widen-marks (mapIn (a .marks) w) (regD binary64 (a .op)) (regM binary32 (a .op)))))))
+    (λ c κs. search needs)
+    (λ c w. let a = c .before .before .before .before .before .before .args in rw (c .before .before .before .before .before .if1 .left) (c .mark-double .ensures w ∙ rw (c .before .before .before .single-known .ensures w, c .before .before .is-known2 .ensures w, place-control, c .before .double-d .ensures .0, c .before .before .before .before .single-m .ensures .0) (sym (widen-marks (mapIn (a .marks) w) (regD binary64 (a .op)) (regM binary32 (a .op)))))))

@@ -1,7 +1,6 @@
 -- `steps::root::root_double` meets its contract.
 use Rattle.roots.proofs.Laws.{root-nearest}
 use lib.Ieee.{binary64}
-use mathlib.Core.Path.{refl}
 use borrow.Author.Needs.{needs}
 use Rattle.steps.proofs.root.root_double.Statement.{statement}
 use Rattle.steps.proofs.root.root_double.Tie as tie
@@ -16,19 +15,13 @@ set-double-requires : tie.Need-set-double-requires
 set-double-requires c κs = search needs
 
 returns : tie.Need-returns
-returns c = λ q v. rw (c .set-double .ensures, c .before .before .before .quick-root64 .ensures (c .before .before .if2 .taken), root-nearest binary64 (c .before .before .before .before .before .before .before .args .control) _ (c .before .before .before .before .if1 .taken), c .before .before .before .before .before .get-double .ensures)
+returns c = λ q v. rw (c .set-double .ensures, c .before .before .before .quick-root64 .ensures (c .before .before .if2 .taken) .1, root-nearest binary64 (c .before .before .before .before .before .before .before .args .control) _ (c .before .before .before .before .if1 .taken) (c .before .before .before .quick-root64 .ensures (c .before .before .if2 .taken) .0), c .before .before .before .before .before .get-double .ensures)
 
 store-root-double-requires : tie.Need-store-root-double-requires
 store-root-double-requires c κs = search needs
 
 returns-2 : tie.Need-returns-2
-returns-2 c = λ q v. rw (c .store-root-double .ensures, ← root-nearest binary64 0 _ refl, root-nearest binary64 (c .before .before .before .before .before .before .before .args .control) _ (c .before .before .before .before .if1 .taken), c .before .before .before .before .before .get-double .ensures)
-
-store-root-double-requires-2 : tie.Need-store-root-double-requires-2
-store-root-double-requires-2 c κs = search needs
-
-returns-3 : tie.Need-returns-3
-returns-3 c = λ q v. rw (c .store-root-double2 .ensures, c .before .before .before .get-double .ensures)
+returns-2 c = λ q v. rw (c .store-root-double .ensures, c .before .before .before .get-double .ensures)
 
 pub root-double-spec : {M : Type 1} → statement M
 root-double-spec =
@@ -39,6 +32,4 @@ root-double-spec =
     set-double-requires
     returns
     store-root-double-requires
-    returns-2
-    store-root-double-requires-2
-    returns-3)
+    returns-2)

@@ -1,9 +1,9 @@
-use mathlib.Core.Path.{refl}
+use mathlib.Core.Path.{refl, _∙_}
 use native.Mathlib.Omega.{arith}
 use Rattle.rounding.specs.Rounding.{roundingOf}
 use Rattle.rounding.specs.declared.rounding.Rounding.the-variants.{Nearest}
 use Rattle.rounding.proofs.Cutting.{mode-nearest}
-use Rattle.widths.proofs.Narrow.{normal-most, normal-lowered, narrow-normal, narrow-is}
+use Rattle.widths.proofs.Narrow.{normal-most, normal-lowered, narrow-normal, narrow-is, narrow-number, narrow-resized}
 use borrow.Author.Needs.{needs}
 use Rattle.widths.proofs.convert.narrow.Statement.{statement}
 use Rattle.widths.proofs.convert.narrow.Tie as tie
@@ -28,6 +28,7 @@ cast-result c = let s = c .before .before .before .before .before in
 returns : tie.Need-returns
 returns c = let s = c .before .before .before .before .before in
     narrow-normal _ (s .args .b) (c .before .before .before .if2 .taken) (c .before .before .if3 .taken) (s .args .control) _ _ (mode-nearest (s .args .control) (c .before .before .before .before .if1 .taken)) (s .fits .b .fits) (c .before .cut .ensures .kept-is) refl
+    ∙ narrow-number (s .args .control) (s .args .b) (omega arith)
 
 directed-requires : tie.Need-directed-requires
 directed-requires c κs = search needs
@@ -48,6 +49,13 @@ cast-result-2 c = let s = c .before .before .before .before in
 returns-2 : tie.Need-returns-2
 returns-2 c = let s = c .before .before .before .before in
     narrow-normal _ (s .args .b) (c .before .before .if4 .taken) (c .before .if5 .taken) (s .args .control) _ _ refl (s .fits .b .fits) (normal-lowered (roundingOf (s .args .control)) (s .args .b) (c .before .before .if4 .taken) (c .before .if5 .taken) _ (c .directed .ensures) .1) refl
+    ∙ narrow-number (s .args .control) (s .args .b) (omega arith)
+
+narrowed-nan-requires : tie.Need-narrowed-nan-requires
+narrowed-nan-requires c κs = search needs
+
+returns-3 : tie.Need-returns-3
+returns-3 c = narrow-resized _ _ _ (c .before .if6 .taken) (c .narrowed-nan .ensures)
 
 rounding-of-requires : tie.Need-rounding-of-requires
 rounding-of-requires c κs = search needs
@@ -58,8 +66,10 @@ narrowed32-requires c κs = search needs
 flush32-requires : tie.Need-flush32-requires
 flush32-requires c κs = search needs
 
-returns-3 : tie.Need-returns-3
-returns-3 c = let s = c .before .before .before .before in narrow-is (s .args .control) _ (s .args .b) _ _ (c .before .before .rounding-of .ensures) (c .before .narrowed32 .ensures .bits-are) (c .flush32 .ensures)
+returns-4 : tie.Need-returns-4
+returns-4 c = let s = c .before .before .before .before .before in
+    narrow-is (s .args .control) _ (s .args .b) _ _ (c .before .before .rounding-of .ensures) (c .before .narrowed32 .ensures .bits-are) (c .flush32 .ensures)
+    ∙ narrow-number (s .args .control) (s .args .b) (c .before .before .before .if6 .left)
 
 pub narrow-spec : {M : Type 1} → statement M
 narrow-spec =
@@ -77,7 +87,9 @@ narrow-spec =
     add-result-2
     cast-result-2
     returns-2
+    narrowed-nan-requires
+    returns-3
     rounding-of-requires
     narrowed32-requires
     flush32-requires
-    returns-3)
+    returns-4)

@@ -1,5 +1,5 @@
-use Rattle.widths.proofs.Widen.{wide-inf, wide-nan, wide-normal, wide-zero, wide-low}
-use Rattle.widths.specs.Convert.{widen}
+use mathlib.Core.Path.{_∙_}
+use Rattle.widths.proofs.Widen.{wide-inf, wide-normal, wide-zero, wide-low, widen-number, widen-nan}
 use native.Mathlib.Omega.{arith}
 use borrow.Author.Needs.{needs}
 use Rattle.widths.proofs.convert.widen.Statement.{statement}
@@ -12,12 +12,13 @@ add-result : tie.Need-add-result
 add-result c = search needs
 
 returns : tie.Need-returns
-unfolding widen
-returns c = wide-inf (c .before .before .args .b) (c .before .before .fits .b .fits) (omega arith) (omega arith)
+returns c = wide-inf (c .before .before .args .b) (c .before .before .fits .b .fits) (omega arith) (omega arith) ∙ widen-number _ _ (omega arith)
+
+widened-nan-requires : tie.Need-widened-nan-requires
+widened-nan-requires c κs = search needs
 
 returns-2 : tie.Need-returns-2
-unfolding widen
-returns-2 c = wide-nan (c .before .before .args .b) (omega arith) (λ e. c .if2 .left (omega arith))
+returns-2 c = widen-nan _ _ _ (omega arith) (c .widened-nan .ensures)
 
 mul-result : tie.Need-mul-result
 mul-result c = search needs
@@ -29,12 +30,10 @@ add-result-3 : tie.Need-add-result-3
 add-result-3 c = search needs
 
 returns-3 : tie.Need-returns-3
-unfolding widen
-returns-3 c = wide-normal (c .before .before .args .b) (c .before .before .fits .b .fits) (c .if3 .taken) (c .before .if1 .left)
+returns-3 c = wide-normal (c .before .before .args .b) (c .before .before .fits .b .fits) (c .if3 .taken) (c .before .if1 .left) ∙ widen-number _ _ (omega arith)
 
 returns-4 : tie.Need-returns-4
-unfolding widen
-returns-4 c = wide-zero (c .before .before .before .args .b) (c .before .before .before .fits .b .fits) (omega arith) (omega arith)
+returns-4 c = wide-zero (c .before .before .before .args .b) (c .before .before .before .fits .b .fits) (omega arith) (omega arith) ∙ widen-number _ _ (omega arith)
 
 lift-requires : tie.Need-lift-requires
 lift-requires c κs = search needs
@@ -55,8 +54,7 @@ add-result-5 : tie.Need-add-result-5
 add-result-5 c = search needs
 
 returns-5 : tie.Need-returns-5
-unfolding widen
-returns-5 c = wide-low (c .before .before .before .before .args .b) (c .lift .result) (c .before .before .before .before .fits .b .fits) (omega arith) (c .lift .ensures)
+returns-5 c = wide-low (c .before .before .before .before .args .b) (c .lift .result) (c .before .before .before .before .fits .b .fits) (omega arith) (c .lift .ensures) ∙ widen-number _ _ (omega arith)
 
 pub widen-spec : {M : Type 1} → statement M
 widen-spec =
@@ -65,6 +63,7 @@ widen-spec =
     mul-sign
     add-result
     returns
+    widened-nan-requires
     returns-2
     mul-result
     add-result-2
