@@ -40,7 +40,7 @@ pub fn mark_sum_double(marks: u64, kind: Arithmetic, d: Double, n: Double, m: Do
     mark_double(marks, d, all)
 }
 
-pub(crate) fn arithmetic_singles(
+pub fn arithmetic_singles(
     marks: u64,
     control: u32,
     kind: Arithmetic,
@@ -71,7 +71,7 @@ pub(crate) fn arithmetic_singles(
 }
 
 // The loops of doubles count the registers that they go on, so that the compiler does not take them apart.
-pub(crate) fn arithmetic_doubles(
+pub fn arithmetic_doubles(
     marks: u64,
     control: u32,
     kind: Arithmetic,
@@ -102,7 +102,7 @@ pub(crate) fn arithmetic_doubles(
 }
 
 // Moves, sign changes and, in single precision, roots: the marks are copied.
-pub(crate) fn copy_singles(marks: u64, control: u32, d: Single, m: Single) -> u64
+pub fn copy_singles(marks: u64, control: u32, d: Single, m: Single) -> u64
     requires { ⌜ (d .0 < 32) × (m .0 < 32) ⌝ }
     ensures { λ y. ⌜ ((one : ℕ → ℕ → Step) → Copies binary32 one → MarksIterated (iterationsOf binary32 control (d .0)) (monadicStep binary32 control one (d .0) (m .0)) marks y) ⌝ }
 {
@@ -123,7 +123,7 @@ pub(crate) fn copy_singles(marks: u64, control: u32, d: Single, m: Single) -> u6
     }
 }
 
-pub(crate) fn copy_doubles(marks: u64, control: u32, d: Double, m: Double) -> u64
+pub fn copy_doubles(marks: u64, control: u32, d: Double, m: Double) -> u64
     requires { ⌜ (d .0 < 32) × (m .0 < 32) ⌝ }
     ensures { λ y. ⌜ ((one : ℕ → ℕ → Step) → Copies binary64 one → MarksIterated (iterationsOf binary64 control (d .0)) (monadicStep binary64 control one (d .0) (m .0)) marks y) ⌝ }
 {
@@ -145,7 +145,7 @@ pub(crate) fn copy_doubles(marks: u64, control: u32, d: Double, m: Double) -> u6
 }
 
 // Roots: both words of the target are known when both of the operand are.
-pub(crate) fn root_doubles(marks: u64, control: u32, d: Double, m: Double) -> u64
+pub fn root_doubles(marks: u64, control: u32, d: Double, m: Double) -> u64
     requires { ⌜ (d .0 < 32) × (m .0 < 32) ⌝ }
     ensures { λ y. ⌜ MarksIterated (iterationsOf binary64 control (d .0)) (monadicStep binary64 control (rootStep binary64 control) (d .0) (m .0)) marks y ⌝ }
 {

@@ -1,0 +1,21 @@
+-- `step_marks::mark_rounded` meets its contract.
+use mathlib.Core.Path.{sym, _∙_}
+use lib.Ieee.{binary32}
+use Rattle.place_marks.specs.Word.{mapIn}
+use Rattle.decoding.specs.Fields.{regD, regM}
+use Rattle.place_marks.proofs.Places.{place-control}
+use Rattle.short_vectors.specs.Vector.{precision}
+use Rattle.processing_marks.proofs.Steps.{round-marks}
+use borrow.Author.Needs.{needs}
+use Rattle.step_marks.proofs.mark_rounded.Statement.{statement}
+use Rattle.step_marks.proofs.mark_rounded.Tie as tie
+
+pub mark-rounded-spec : {M : Type 1} → statement M
+mark-rounded-spec =
+    tie.close
+    (tie.spec
+    (λ c κs. search needs)
+    (λ c κs. search needs)
+    (λ c κs. search needs)
+    (λ c κs. search needs)
+    (λ c sign w. let a = c .before .before .before .before .args in let f = precision (a .double) in c .mark-single .ensures w ∙ rw (c .before .before .before .m-known .ensures w, c .before .before .is-known .ensures w, place-control, c .before .single-d .ensures .0) (sym (round-marks (mapIn (a .marks) w) f sign (regD binary32 (a .op)) (regM f (a .op))))))

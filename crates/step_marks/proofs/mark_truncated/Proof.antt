@@ -1,0 +1,19 @@
+-- `step_marks::mark_truncated` meets its contract.
+use mathlib.Core.Path.{sym, _∙_}
+use lib.Ieee.{binary32}
+use Rattle.place_marks.specs.Word.{mapIn}
+use Rattle.decoding.specs.Fields.{regD, regM}
+use Rattle.short_vectors.specs.Vector.{precision}
+use Rattle.processing_marks.proofs.Steps.{truncate-marks}
+use borrow.Author.Needs.{needs}
+use Rattle.step_marks.proofs.mark_truncated.Statement.{statement}
+use Rattle.step_marks.proofs.mark_truncated.Tie as tie
+
+pub mark-truncated-spec : {M : Type 1} → statement M
+mark-truncated-spec =
+    tie.close
+    (tie.spec
+    (λ c κs. search needs)
+    (λ c κs. search needs)
+    (λ c κs. search needs)
+    (λ c sign w. let a = c .before .before .before .args in let f = precision (a .double) in c .mark-single .ensures w ∙ rw (c .before .m-known .ensures w, c .before .before .single-d .ensures .0) (sym (truncate-marks (mapIn (a .marks) w) f sign (regD binary32 (a .op)) (regM f (a .op))))))
