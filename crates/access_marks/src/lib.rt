@@ -1,7 +1,5 @@
 // Loads, stores and pairs of the watched run: the work of crate `memory` with the marks that it leaves, from one decoding.
 mod one;
-mod pair;
-mod words;
 
 ghost use mathlib.Core.Path.{_≡_};
 ghost use mathlib.Core.List.{List};
@@ -24,7 +22,9 @@ use addresses::address::start_of;
 use addresses::address::word_count;
 use addresses::address::write_back;
 use bits::field::bits;
+use pair_marks::mark_pair;
 use pairs::pair::move_pair;
+use watched_words::watched_words;
 
 // The base register's value says which window words move. A write-back changes no mark. The number of ones among the window's marks is kept.
 pub fn watched_load_store(
@@ -64,7 +64,7 @@ fn watched_access(
     ensures { λ y. ⌜ ((q : Machine) → out (state (withS (withR q (now (r .exit))) (now (s .exit))) (now (window .exit))) on ≡ plain (accessTree (formatOf double) base op) (state (withS (withR q (now (r .entry))) (now (s .entry))) (now (window .entry)))) × ((q : Machine) (v : List ℕ) → mapIn y (now («window_marks» .exit)) ≡ marked (accessTree (formatOf double) base op) (state (withR q (now (r .entry))) v) (mapIn marks (now («window_marks» .entry)))) × (now (ones .exit) ≡ onesOf (now («window_marks» .exit))) ⌝ }
 {
     if bits(op, 21, 27) == 0b110_0010 {
-        let y = pair::mark_pair(marks, op, double);
+        let y = mark_pair(marks, op, double);
         move_pair(s, r, op, double);
         return y;
     }
@@ -116,7 +116,7 @@ fn watched_transfer(
 {
     let first = first_word(op, double);
     let count = word_count(op, double);
-    words::watched_words(
+    watched_words(
         s,
         window,
         marks,

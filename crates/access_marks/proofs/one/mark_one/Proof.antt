@@ -1,7 +1,7 @@
 -- `access_marks::one::mark_one` meets its contract.
 use denote.Ref.{now}
 use mathlib.Core.Path.{sym, _∙_}
-use Rattle.access_marks.proofs.InTurn.{one-loaded, one-stored}
+use Rattle.watched_words.proofs.InTurn.{one-loaded, one-stored}
 use borrow.Author.Needs.{needs}
 use Rattle.access_marks.proofs.one.mark_one.Statement.{statement}
 use Rattle.access_marks.proofs.one.mark_one.Tie as tie

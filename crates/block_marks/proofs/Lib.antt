@@ -1,0 +1,3 @@
+-- The marks of one word more of a contiguous transfer.
+
+mod Block
