@@ -25,7 +25,7 @@ use Rattle.transfers.specs.declared.Transfer.the-variants.{System, Single, Noth
 use Rattle.transfers.specs.Transfer.{transferTree, transferOf, transferBy, systemTree, singleTree}
 use Rattle.memory.specs.LoadStore.{accessTree, loadStoreTree}
 use Rattle.limits.specs.Limit.{runLimit}
-use Rattle.run_word.specs.Word.{foreignWord, classTree, exempt, enabled, conditioned, meaning}
+use Rattle.word_class.specs.Word.{foreignWord, classTree, exempt, enabled, conditioned, meaning}
 use Rattle.progress.specs.declared.Ran.{Ran}
 use Rattle.watch.specs.declared.Watched.{Watched}
 use Rattle.watch.specs.Watch.{limitOf, watchReply}

@@ -7,7 +7,7 @@ use Rattle.bits.specs.Field.{field, bitOf}
 use Rattle.numerals.specs.Number.{hexText}
 use Rattle.decoding.specs.Operation.{operationOf}
 use Rattle.addresses.specs.Address.{formatOf}
-use Rattle.run_word.specs.Word.{foreignWord}
+use Rattle.word_class.specs.Word.{foreignWord}
 use Rattle.mnemonics.specs.Ascii.{ascii}
 use Rattle.processing_mnemonics.specs.Data.{dataText}
 use Rattle.transfer_mnemonics.specs.Transfer.{transferText}

@@ -9,9 +9,9 @@ use bits::field::bit;
 use bits::field::bits;
 use decoding::table::operation;
 use processing_mnemonics::data::data;
-use run_word::word::foreign;
 use text::text::Text;
 use transfer_mnemonics::transfer::transfer;
+use word_class::foreign::foreign;
 
 // What a word is, by its class. The decode table is lent.
 pub fn word(table: &[u8; 1024], t: Text, op: u32) -> Text

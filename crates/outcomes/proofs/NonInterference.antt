@@ -14,7 +14,7 @@ use Rattle.machine.specs.Machine.{Sized}
 use Rattle.machine.specs.Place.{Place, word, place, before, State, get, state}
 use Rattle.meaning.specs.Map.{Map, known}
 use Rattle.meaning.specs.Stop.{Report, report, refused}
-use Rattle.run_word.specs.Word.{meaning}
+use Rattle.word_class.specs.Word.{meaning}
 use Rattle.watch.specs.Watch.{Reply, limitOf, watchReply}
 use Rattle.watch.specs.Demand.{Agree}
 use Rattle.watch.proofs.Demanded.{mapped, within, demand-3}

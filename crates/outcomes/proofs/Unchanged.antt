@@ -16,7 +16,7 @@ use Rattle.transfers.specs.Transfer.{transferTree}
 use Rattle.memory.specs.LoadStore.{loadStoreTree}
 use Rattle.limits.specs.Limit.{windowLimit, runLimit}
 use Rattle.vfp.specs.Call.{Reply, reply, loadStoreReply}
-use Rattle.run_word.specs.Word.{meaning}
+use Rattle.word_class.specs.Word.{meaning}
 use Rattle.run.specs.Run as Run
 use Rattle.watch.specs.Watch as Watch
 use Rattle.watch.specs.Watch.{limitOf, watchReply}

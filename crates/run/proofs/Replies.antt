@@ -13,7 +13,7 @@ use Rattle.meaning.specs.Run.{Ended, ended, run}
 use Rattle.run_word.specs.declared.Stop.{Stop}
 use Rattle.progress.specs.declared.Ran.{Ran}
 use Rattle.limits.specs.Limit.{runLimit}
-use Rattle.run_word.specs.Word.{meaning}
+use Rattle.word_class.specs.Word.{meaning}
 use Rattle.run_word.specs.Stop.{stopOf}
 use Rattle.run.specs.Run.{Reply, answered, reply, runReply}
 use Rattle.meaning.specs.Stop as S

@@ -11,7 +11,7 @@ use Rattle.meaning.specs.Run.{Ended, run}
 use Rattle.progress.specs.declared.Ran.{Ran}
 use Rattle.limits.specs.Limit.{runLimit}
 use Rattle.run_word.specs.Stop.{stopOf}
-use Rattle.run_word.specs.Word.{meaning}
+use Rattle.word_class.specs.Word.{meaning}
 
 -- a report and a count, with the machine and the window that are left
 pub record Reply : Type 0 where

@@ -4,7 +4,7 @@ ghost use mathlib.Core.Bool.{false};
 ghost use Rattle.machine.specs.Place.{state};
 ghost use Rattle.meaning.specs.Run as R;
 ghost use Rattle.decoding.specs.Table.{operationTable};
-ghost use Rattle.run_word.specs.Word.{meaning};
+ghost use Rattle.word_class.specs.Word.{meaning};
 ghost use Rattle.run.specs.Run.{answered, reply, runReply};
 use decoding::table::operations;
 use limits::limit::run_limit;

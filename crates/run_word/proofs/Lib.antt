@@ -1,6 +1,4 @@
 -- Laws of the crate's proofs.
 
 pub mod Words
-pub mod Enables
-pub mod Classes
 pub mod Scalars

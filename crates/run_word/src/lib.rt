@@ -1,7 +1,5 @@
 // One word of a run: what follows it, and why a run stops.
-pub mod class;
 mod data;
-pub mod enable;
 pub mod word;
 
 // Why a run stopped. A plain run never hangs.

@@ -9,14 +9,11 @@ ghost use Rattle.machine.specs.Place.{state};
 ghost use Rattle.meaning.specs.Tree.{out, plain};
 ghost use Rattle.decoding.specs.Table.{operationTable};
 ghost use Rattle.transfers.specs.Transfer.{transferTree};
-ghost use Rattle.run_word.specs.Word.{foreignWord, meaning};
+ghost use Rattle.word_class.specs.Word.{meaning};
 ghost use Rattle.run_word.specs.Stop.{nextOf};
 use super::Next;
 use super::Stop;
-use super::class::Class;
-use super::class::enabled_class;
 use super::data::process_data;
-use bits::field::bits;
 use machine::Controls;
 use machine::address::plus;
 use transfers::Transfer;
@@ -24,6 +21,8 @@ use transfers::single::single_core;
 use transfers::system::system;
 use transfers::transfer_of;
 use vfp::current_pc;
+use word_class::class::Class;
+use word_class::class::enabled_class;
 
 // What is no array after a word, and what follows it.
 pub struct Executed {
@@ -72,14 +71,6 @@ pub fn execute(
             }
         }
     }
-}
-
-// Whether the word is no VFP instruction.
-pub fn foreign(op: u32) -> bool
-    ensures { λ b. ⌜ b ≡ foreignWord op ⌝ }
-{
-    let class = bits(op, 24, 27);
-    (op >= 0xF000_0000) | (bits(op, 9, 11) != 0b101) | (class < 12) | (class > 14)
 }
 
 // A register transfer, as `transfers::coprocessor_register` does it. The two kinds are called directly: a call that takes and returns what is no

@@ -15,7 +15,7 @@ use Rattle.meaning.proofs.Prefix.{prefix}
 use Rattle.limits.proofs.Limits.{run-within, marks-within, shorter}
 use Rattle.place_marks.specs.Word.{mapIn}
 use Rattle.place_marks.proofs.Word.{singles-marked, cores-marked}
-use Rattle.run_word.specs.Word.{meaning}
+use Rattle.word_class.specs.Word.{meaning}
 use Rattle.watch.specs.Watch.{reply, limitOf, watchReply}
 use Rattle.watch.specs.Demand.{Agree, Alike, Mapped, Plainly, Demand3}
 use Rattle.watch.proofs.Places.{by-place}

@@ -11,7 +11,7 @@ use Rattle.meaning.specs.Run as R
 use Rattle.meaning.specs.Monotone.{SameSize}
 use Rattle.meaning.proofs.Monotone.{monotone}
 use Rattle.limits.proofs.Limits.{marks-within, watch-shorter}
-use Rattle.run_word.specs.Word.{meaning}
+use Rattle.word_class.specs.Word.{meaning}
 use Rattle.watch.specs.Watch.{reply, limitOf, watchReply}
 use Rattle.watch.specs.Demand.{Mapped}
 use Rattle.watch.specs.More.{KnowsAll, NoLess, MoreKnown}

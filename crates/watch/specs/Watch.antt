@@ -9,7 +9,7 @@ use Rattle.meaning.specs.Map.{Map}
 use Rattle.meaning.specs.Stop.{Report, report, refused}
 use Rattle.meaning.specs.Run as R
 use Rattle.place_marks.specs.Word.{mapIn, wordOf}
-use Rattle.run_word.specs.Word.{meaning}
+use Rattle.word_class.specs.Word.{meaning}
 use Rattle.run_word.specs.Stop.{stopOf}
 use Rattle.watch.specs.declared.Watched.{Watched}
 use Rattle.limits.specs.Limit.{watchLimit}

@@ -9,7 +9,7 @@ ghost use Rattle.decoding.specs.Table.{operationTable};
 ghost use Rattle.limits.specs.Marks.{onesOf};
 ghost use Rattle.place_marks.specs.Word.{marksOf, mapIn};
 ghost use Rattle.known_places.specs.Count.{knownBefore, knownPlaces};
-ghost use Rattle.run_word.specs.Word.{meaning};
+ghost use Rattle.word_class.specs.Word.{meaning};
 ghost use Rattle.watch.specs.Watch.{answered, reply};
 ghost use Rattle.watch.specs.Promise.{Promise, WordPromise};
 use decoding::table::operations;

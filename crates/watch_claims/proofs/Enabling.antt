@@ -9,7 +9,7 @@ use Rattle.machine.specs.Place.{State, place, state}
 use Rattle.meaning.specs.Map.{Map, mapOf, mark}
 use Rattle.meaning.specs.Stop.{undefined, hangs}
 use Rattle.meaning.specs.Tree.{Seen, seen, Next, on, halt, watched}
-use Rattle.run_word.specs.Word.{exempt, enabled, conditioned, meaning}
+use Rattle.word_class.specs.Word.{exempt, enabled, conditioned, meaning}
 use Rattle.transfers.specs.Transfer.{transferTree}
 
 -- arithmetic, a compare, a conversion, an Undefined word; a single's move, FPSCR, a register without a name, an opc1 that does nothing; pairs, loads and stores

@@ -17,7 +17,7 @@ use Rattle.processing.specs.Data.{operationTree, dataTree}
 use Rattle.decoding.specs.Operation.{extensionBy, arithmetics, operationBy, operationOf}
 use Rattle.short_vectors.specs.Vector.{stepOf, secondOf}
 use Rattle.memory.specs.LoadStore.{accessTree, loadStoreTree}
-use Rattle.run_word.specs.Word.{classTree, exempt, enabled, conditioned, meaning}
+use Rattle.word_class.specs.Word.{classTree, exempt, enabled, conditioned, meaning}
 use Rattle.transfers.specs.Transfer.{transferTree}
 
 -- places by number: the targets are known just when all the sources are

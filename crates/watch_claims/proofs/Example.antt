@@ -16,7 +16,7 @@ use Rattle.decoding.specs.Operation.{extensionBy, arithmetics, operationBy, ope
 use Rattle.short_vectors.specs.Vector.{stepOf, secondOf}
 use Rattle.limits.specs.Marks.{bitsOnly}
 use Rattle.limits.specs.Limit.{windowLimit, runLimit, watchLimit}
-use Rattle.run_word.specs.Word.{classTree, exempt, enabled, conditioned, meaning}
+use Rattle.word_class.specs.Word.{classTree, exempt, enabled, conditioned, meaning}
 use Rattle.transfers.specs.Transfer.{transferTree}
 use Rattle.watch.specs.Watch.{Reply, watchReply}
 

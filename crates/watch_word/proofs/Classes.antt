@@ -13,15 +13,15 @@ use Rattle.machine.specs.Place.{State, core, exc, nzcv, number, get}
 use Rattle.meaning.specs.Map.{Map, known}
 use Rattle.meaning.specs.Stop as S
 use Rattle.meaning.specs.Tree.{Tree, Seen, seen, watched, on, halt}
-use Rattle.run_word.specs.Word.{foreignWord, classTree, exempt, enabled, meaning}
-use Rattle.run_word.specs.Class.{classOf, treeOf}
-use Rattle.run_word.specs.declared.class.Class.{Class}
-use Rattle.run_word.specs.declared.class.Class.the-variants as C
-use Rattle.run_word.proofs.Words.{meaning-foreign, meaning-word}
-use Rattle.run_word.proofs.Words as Words
-use Rattle.run_word.proofs.Classes.{vfp-word}
+use Rattle.word_class.specs.Word.{foreignWord, classTree, exempt, enabled, meaning}
+use Rattle.word_class.specs.Class.{classOf, treeOf}
+use Rattle.word_class.specs.declared.class.Class.{Class}
+use Rattle.word_class.specs.declared.class.Class.the-variants as C
+use Rattle.word_class.proofs.Words.{meaning-foreign, meaning-word}
+use Rattle.word_class.proofs.Words as Words
+use Rattle.word_class.proofs.Classes.{vfp-word}
 use Rattle.hangs.proofs.Hangs.{both}
-use Rattle.run_word.proofs.Enables.{exempt-class}
+use Rattle.word_class.proofs.Enables.{exempt-class}
 use Rattle.watch_word.proofs.Enables.{told-on, free-on, not-told, told-off, pc-unknown}
 use Rattle.watch_word.specs.Class.{seenAs, watchedClassOf, disabledWatchedClass, enabledWatchedClass}
 use Rattle.watch_word.specs.declared.class.WatchedClass.{WatchedClass}

@@ -8,7 +8,7 @@ use Rattle.meaning.specs.Map.{Map, known}
 use Rattle.meaning.specs.Stop as S
 use Rattle.meaning.specs.Tree.{Tree, ask, Seen, seen, halt, watched}
 use Rattle.processing.specs.Data.{undefinedTree}
-use Rattle.run_word.specs.Word.{exempt, enabled}
+use Rattle.word_class.specs.Word.{exempt, enabled}
 
 module _ (w : ℕ) (t : Tree) (st : State) (μ : Map) where
   abbrev undefined : Seen

@@ -11,7 +11,7 @@ use Rattle.meaning.specs.Step.{nothing, after, afterMarks}
 use Rattle.meaning.specs.Tree.{Tree, stop, go, Next, on, halt, out, plain, Seen, seen, watched}
 use Rattle.meaning.specs.Hang.{clear, at, hangOf, marked}
 use Rattle.meaning.proofs.Laws.{split-clear, split-at}
-use Rattle.run_word.specs.Word.{conditioned}
+use Rattle.word_class.specs.Word.{conditioned}
 use Rattle.meaning.specs.Stop as S
 
 pub stopping : (s : S.Stop) (st : State) (μ : Map) → seen st μ (halt s) ≡ watched (stop s) st μ

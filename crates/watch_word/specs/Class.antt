@@ -7,10 +7,10 @@ use Rattle.bits.specs.Psr.{holds}
 use Rattle.bits.specs.declared.psr.Psr.{Psr}
 use Rattle.machine.specs.Place.{core, exc, nzcv, number}
 use Rattle.meaning.specs.Map.{Map, known}
-use Rattle.run_word.specs.Word.{foreignWord, exempt}
-use Rattle.run_word.specs.Class.{classOf}
-use Rattle.run_word.specs.declared.class.Class.{Class}
-use Rattle.run_word.specs.declared.class.Class.the-variants as C
+use Rattle.word_class.specs.Word.{foreignWord, exempt}
+use Rattle.word_class.specs.Class.{classOf}
+use Rattle.word_class.specs.declared.class.Class.{Class}
+use Rattle.word_class.specs.declared.class.Class.the-variants as C
 use Rattle.watch_word.specs.declared.class.WatchedClass.{WatchedClass}
 use Rattle.watch_word.specs.declared.class.WatchedClass.the-variants.{Data, Access, Transfer, Skipped, Foreign, Hangs, Off}
 

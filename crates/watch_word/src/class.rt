@@ -14,8 +14,8 @@ use machine::place::EXC;
 use machine::place::NZCV;
 use machine::place::PC;
 use place_marks::place::is_known;
-use run_word::enable::is_exempt;
-use run_word::word::foreign;
+use word_class::enable::is_exempt;
+use word_class::foreign::foreign;
 
 // As in the plain run; or it hangs on NZCV or on FPEXC before its class is looked at, or with the unit off on r15.
 pub enum WatchedClass {
@@ -28,7 +28,7 @@ pub enum WatchedClass {
     Off,
 }
 
-// In an enabled unit: by the tests of `class_of` of crate run_word, in the same order.
+// In an enabled unit: by the tests of `class_of` of crate word_class, in the same order.
 pub(crate) fn watched_class(marks: u64, op: u32, flags: Psr) -> WatchedClass
     ensures { λ c. ⌜ ((w : List ℕ) → c ≡ watchedClassOf (known (mapIn marks w) nzcv) op flags) ⌝ }
 {

@@ -16,7 +16,7 @@ ghost use Rattle.decoding.specs.Table.{operationTable};
 ghost use Rattle.processing.specs.Data.{dataTree};
 ghost use Rattle.memory.specs.LoadStore.{loadStoreTree};
 ghost use Rattle.transfers.specs.Transfer.{transferTree};
-ghost use Rattle.run_word.specs.Word.{meaning};
+ghost use Rattle.word_class.specs.Word.{meaning};
 ghost use Rattle.run_word.specs.Stop.{nextOf};
 ghost use Rattle.run_word.specs.declared.Next.the-variants.{On};
 use super::class::WatchedClass;

@@ -7,7 +7,7 @@ use mathlib.Core.Bool.{false}
 use mathlib.Core.Path.{_≡_, refl, _∙_, ap}
 use denote.Ref.{now}
 use Rattle.machine.specs.declared.Machine.{Machine}
-use Rattle.run_word.specs.Word.{meaning}
+use Rattle.word_class.specs.Word.{meaning}
 use Rattle.meaning.specs.Run.{run}
 use Rattle.meaning.proofs.Laws.{run-on, run-last, run-halt, run-end}
 use Rattle.run.proofs.Replies.{answered-as, whole}

@@ -11,7 +11,7 @@ use Rattle.meaning.specs.Run.{watch}
 use Rattle.meaning.proofs.Laws.{watch-on, watch-last, watch-halt, watch-end}
 use Rattle.limits.specs.Marks.{onesOf}
 use Rattle.place_marks.specs.Word.{mapIn}
-use Rattle.run_word.specs.Word.{meaning}
+use Rattle.word_class.specs.Word.{meaning}
 use Rattle.watch.proofs.Replies.{answered-as, begun, few}
 use borrow.Author.Needs.{needs}
 use Rattle.watch.proofs.watch_words.Statement.{statement}

@@ -7,8 +7,8 @@ use native.Mathlib.Omega.{arith}
 use Rattle.machine.specs.Machine.{assembled}
 use Rattle.machine.specs.Place.{state}
 use Rattle.meaning.proofs.Laws.{plain-stop, plain-nothing}
-use Rattle.run_word.proofs.Classes.{by-class, data-word}
-use Rattle.run_word.proofs.Enables.{undefined-at}
+use Rattle.word_class.proofs.Classes.{by-class, data-word}
+use Rattle.word_class.proofs.Enables.{undefined-at}
 use Rattle.run_word.proofs.word.execute.Statement.{statement}
 use Rattle.run_word.proofs.word.execute.Tie as tie
 

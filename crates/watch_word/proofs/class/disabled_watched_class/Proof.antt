@@ -7,7 +7,7 @@ use borrow.Author.Tests.{not-true, not-false}
 use Rattle.bits.specs.Psr.{holds}
 use Rattle.place_marks.specs.Word.{mapIn}
 use Rattle.place_marks.proofs.Places.{place-exc, place-nzcv, place-core}
-use Rattle.run_word.proofs.Words.{condition-field}
+use Rattle.word_class.proofs.Words.{condition-field}
 use Rattle.watch_word.proofs.Classes.{off-foreign, off-hangs, off-skipped, off-class}
 use Rattle.watch_word.proofs.class.disabled_watched_class.Statement.{statement}
 use Rattle.watch_word.proofs.class.disabled_watched_class.Tie as tie

@@ -9,8 +9,8 @@ use Rattle.machine.specs.Place.{nzcv}
 use Rattle.meaning.specs.Map.{known}
 use Rattle.place_marks.proofs.Places.{place-nzcv}
 use Rattle.place_marks.specs.Word.{mapIn}
-use Rattle.run_word.proofs.Classes.{masked-group, masked-access, class-foreign, class-skipped, class-access, class-group}
-use Rattle.run_word.proofs.Words.{condition-field}
+use Rattle.word_class.proofs.Classes.{masked-group, masked-access, class-foreign, class-skipped, class-access, class-group}
+use Rattle.word_class.proofs.Words.{condition-field}
 use Rattle.watch_word.proofs.Classes.{group-always, access-always, told-always, told-foreign, told-known, told-hangs}
 use Rattle.watch_word.proofs.class.watched_class.Statement.{statement}
 use Rattle.watch_word.proofs.class.watched_class.Tie as tie

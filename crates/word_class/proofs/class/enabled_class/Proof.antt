@@ -1,7 +1,7 @@
--- `run_word::class::enabled_class` meets its contract.
+-- `word_class::class::enabled_class` meets its contract.
 use borrow.Author.Needs.{needs}
-use Rattle.run_word.proofs.class.enabled_class.Statement.{statement}
-use Rattle.run_word.proofs.class.enabled_class.Tie as tie
+use Rattle.word_class.proofs.class.enabled_class.Statement.{statement}
+use Rattle.word_class.proofs.class.enabled_class.Tie as tie
 
 pub enabled-class-spec : {M : Type 1} → statement M
 enabled-class-spec =

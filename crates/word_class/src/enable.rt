@@ -1,6 +1,6 @@
 // Words that need no enabled unit.
 ghost use mathlib.Core.Path.{_≡_};
-ghost use Rattle.run_word.specs.Word.{exempt};
+ghost use Rattle.word_class.specs.Word.{exempt};
 use bits::field::bit;
 use bits::field::bits;
 

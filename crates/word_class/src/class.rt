@@ -1,8 +1,8 @@
 // The class of a word.
 ghost use mathlib.Core.Path.{_≡_};
-ghost use Rattle.run_word.specs.Class.{classOf, disabledClass, enabledClass};
+ghost use Rattle.word_class.specs.Class.{classOf, disabledClass, enabledClass};
 use super::enable::is_exempt;
-use super::word::foreign;
+use super::foreign::foreign;
 use bits::field::bit;
 use bits::field::bits;
 use bits::psr::Psr;

@@ -1,13 +1,13 @@
--- `run_word::class::disabled_class` meets its contract.
+-- `word_class::class::disabled_class` meets its contract.
 use Prim.Native.Nat.{ℕ}
 use borrow.Author.Needs.{needs}
 use mathlib.Core.Bool.{true, false}
 use mathlib.Core.Path.{sym, _∙_, ap}
 use Rattle.bits.specs.Psr.{holds}
-use Rattle.run_word.proofs.Classes.{off-foreign, off-skipped, off-class}
-use Rattle.run_word.proofs.Words.{condition-field}
-use Rattle.run_word.proofs.class.disabled_class.Statement.{statement}
-use Rattle.run_word.proofs.class.disabled_class.Tie as tie
+use Rattle.word_class.proofs.Classes.{off-foreign, off-skipped, off-class}
+use Rattle.word_class.proofs.Words.{condition-field}
+use Rattle.word_class.proofs.class.disabled_class.Statement.{statement}
+use Rattle.word_class.proofs.class.disabled_class.Tie as tie
 
 pub disabled-class-spec : {M : Type 1} → statement M
 disabled-class-spec =

@@ -1,11 +1,11 @@
--- `run_word::word::foreign` meets its contract.
-use Rattle.run_word.proofs.Words.{foreign-tests}
+-- `word_class::foreign::foreign` meets its contract.
+use Rattle.word_class.proofs.Words.{foreign-tests}
 use borrow.Author.Needs.{needs}
-use Rattle.run_word.proofs.word.foreign.Reads as reads
-use Rattle.run_word.proofs.word.foreign.Lts as lts
+use Rattle.word_class.proofs.foreign.foreign.Reads as reads
+use Rattle.word_class.proofs.foreign.foreign.Lts as lts
 use Rattle.bits.proofs.field.bits.Reads as bits-reads
-use Rattle.run_word.proofs.word.foreign.Statement.{statement}
-use Rattle.run_word.proofs.word.foreign.Tie as tie
+use Rattle.word_class.proofs.foreign.foreign.Statement.{statement}
+use Rattle.word_class.proofs.foreign.foreign.Tie as tie
 
 bits-requires : tie.Need-bits-requires
 bits-requires c κs = search needs

@@ -1,14 +1,14 @@
--- `run_word::class::class_of` meets its contract.
+-- `word_class::class::class_of` meets its contract.
 use Prim.Native.Nat.{ℕ}
 use borrow.Author.Needs.{needs}
 use mathlib.Core.Bool.{true, false}
 use mathlib.Core.Path.{sym, _∙_, ap}
 use native.Mathlib.Omega.{arith}
 use Rattle.bits.specs.Psr.{holds}
-use Rattle.run_word.proofs.Classes.{masked-group, masked-access, class-foreign, class-skipped, class-access, class-group}
-use Rattle.run_word.proofs.Words.{condition-field}
-use Rattle.run_word.proofs.class.class_of.Statement.{statement}
-use Rattle.run_word.proofs.class.class_of.Tie as tie
+use Rattle.word_class.proofs.Classes.{masked-group, masked-access, class-foreign, class-skipped, class-access, class-group}
+use Rattle.word_class.proofs.Words.{condition-field}
+use Rattle.word_class.proofs.class.class_of.Statement.{statement}
+use Rattle.word_class.proofs.class.class_of.Tie as tie
 
 bit-requires : tie.Need-bit-requires
 bit-requires c κs = search needs

@@ -12,7 +12,7 @@ use Rattle.meaning.specs.Tree.{Tree, ask, Out, out, halt, plain}
 use Rattle.meaning.proofs.Laws.{plain-stop, plain-ask}
 use Rattle.processing.specs.Data.{undefinedTree}
 use Rattle.transfers.specs.Transfer.{transferTree}
-use Rattle.run_word.specs.Word.{classTree, exempt, enabled}
+use Rattle.word_class.specs.Word.{classTree, exempt, enabled}
 
 module _ (w : ℕ) (t : Tree) (st : State) where
   -- bit 30 is set, or the word is exempt

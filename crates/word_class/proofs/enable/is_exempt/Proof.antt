@@ -1,8 +1,8 @@
--- `run_word::enable::is_exempt` meets its contract.
+-- `word_class::enable::is_exempt` meets its contract.
 use borrow.Author.Needs.{needs}
-use Rattle.run_word.specs.Word.{exempt}
-use Rattle.run_word.proofs.enable.is_exempt.Statement.{statement}
-use Rattle.run_word.proofs.enable.is_exempt.Tie as tie
+use Rattle.word_class.specs.Word.{exempt}
+use Rattle.word_class.proofs.enable.is_exempt.Statement.{statement}
+use Rattle.word_class.proofs.enable.is_exempt.Tie as tie
 
 pub is-exempt-spec : {M : Type 1} → statement M
 unfolding exempt

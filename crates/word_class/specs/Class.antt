@@ -11,9 +11,9 @@ use Rattle.meaning.specs.Tree.{Tree, stop, go}
 use Rattle.memory.specs.LoadStore.{loadStoreTree}
 use Rattle.processing.specs.Data.{undefinedTree, dataTree}
 use Rattle.transfers.specs.Transfer.{transferTree}
-use Rattle.run_word.specs.Word.{foreignWord, exempt}
-use Rattle.run_word.specs.declared.class.Class.{Class}
-use Rattle.run_word.specs.declared.class.Class.the-variants.{Data, Access, Transfer, Skipped, Foreign, Off}
+use Rattle.word_class.specs.Word.{foreignWord, exempt}
+use Rattle.word_class.specs.declared.class.Class.{Class}
+use Rattle.word_class.specs.declared.class.Class.the-variants.{Data, Access, Transfer, Skipped, Foreign, Off}
 
 abbrev pub classOf : ℕ → Psr → Class
 classOf w flags =

@@ -13,12 +13,12 @@ use Rattle.bits.specs.declared.psr.Psr.{Psr}
 use Rattle.machine.specs.Place.{State}
 use Rattle.meaning.specs.Tree.{Tree, Out, plain}
 use Rattle.meaning.proofs.Laws.{plain-nothing}
-use Rattle.run_word.specs.Word.{foreignWord, classTree, exempt, enabled, meaning}
-use Rattle.run_word.specs.Class.{classOf, disabledClass, enabledClass, treeOf}
-use Rattle.run_word.specs.declared.class.Class.{Class}
-use Rattle.run_word.specs.declared.class.Class.the-variants.{Data, Access, Transfer, Skipped, Foreign, Off}
-use Rattle.run_word.proofs.Enables.{goes-on, exempted, goes-off, exempt-class}
-use Rattle.run_word.proofs.Words.{foreign-tests, meaning-foreign, meaning-word, always, condition-holds, condition-fails}
+use Rattle.word_class.specs.Word.{foreignWord, classTree, exempt, enabled, meaning}
+use Rattle.word_class.specs.Class.{classOf, disabledClass, enabledClass, treeOf}
+use Rattle.word_class.specs.declared.class.Class.{Class}
+use Rattle.word_class.specs.declared.class.Class.the-variants.{Data, Access, Transfer, Skipped, Foreign, Off}
+use Rattle.word_class.proofs.Enables.{goes-on, exempted, goes-off, exempt-class}
+use Rattle.word_class.proofs.Words.{foreign-tests, meaning-foreign, meaning-word, always, condition-holds, condition-fails}
 
 -- ---- the masks
 

@@ -1,0 +1,5 @@
+-- Laws of the crate's proofs.
+
+pub mod Words
+pub mod Enables
+pub mod Classes
