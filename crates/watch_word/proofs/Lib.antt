@@ -1,6 +1,3 @@
 -- Laws of the crate's proofs.
 
-mod Worded
-mod Enables
 mod Scalar
-mod Classes

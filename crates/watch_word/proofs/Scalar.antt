@@ -24,7 +24,7 @@ use Rattle.run_word.specs.declared.Next.the-variants.{On}
 use Rattle.run_word.proofs.Scalars.{the-operation}
 use Rattle.run_word.proofs.Words.{data-done}
 use Rattle.watch_word.specs.declared.word.Seen.{Seen}
-use Rattle.watch_word.proofs.Worded.{not-hanging}
+use Rattle.watched_class.proofs.Worded.{not-hanging}
 
 module _ (w n : ℕ) (o : Operation) (is : n ≡ numberOf (operationOf w)) (named : o ≡ operationNumbered n) (some : 0 < n) where
   defined : 0 < numberOf o

@@ -1,3 +1,2 @@
 // One watched word.
-pub mod class;
 pub mod word;

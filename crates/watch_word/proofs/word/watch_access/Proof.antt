@@ -6,7 +6,7 @@ use Rattle.machine.specs.Place.{state}
 use Rattle.place_marks.specs.Word.{mapIn}
 use Rattle.memory.specs.LoadStore.{loadStoreTree}
 use Rattle.meaning.specs.Tree.{on}
-use Rattle.watch_word.proofs.Worded.{hanging, not-hanging}
+use Rattle.watched_class.proofs.Worded.{hanging, not-hanging}
 use borrow.Author.Needs.{needs}
 use Rattle.watch_word.proofs.word.watch_access.Statement.{statement}
 use Rattle.watch_word.proofs.word.watch_access.Tie as tie

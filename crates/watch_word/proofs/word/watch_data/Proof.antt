@@ -9,7 +9,7 @@ use Rattle.place_marks.specs.Word.{mapIn}
 use Rattle.processing.specs.Data.{dataTree}
 use Rattle.run_word.proofs.Scalars.{the-operation}
 use Rattle.run_word.proofs.Words.{data-done, data-undefined}
-use Rattle.watch_word.proofs.Worded.{hanging, not-hanging}
+use Rattle.watched_class.proofs.Worded.{hanging, not-hanging}
 use Rattle.watch_word.proofs.word.watch_data.Statement.{statement}
 use Rattle.watch_word.proofs.word.watch_data.Tie as tie
 

@@ -12,7 +12,7 @@ use Rattle.transfers.specs.declared.Transfer.the-variants.{System, Single, Noth
 use Rattle.transfers.specs.Transfer.{systemTree, singleTree}
 use Rattle.transfers.proofs.Transfers.{by-transfer}
 use Rattle.hangs.proofs.Hangs.{transfer-clear}
-use Rattle.watch_word.proofs.Worded.{not-hanging}
+use Rattle.watched_class.proofs.Worded.{not-hanging}
 use borrow.Author.Needs.{needs}
 use Rattle.watch_word.proofs.word.watch_transfer.Statement.{statement}
 use Rattle.watch_word.proofs.word.watch_transfer.Tie as tie

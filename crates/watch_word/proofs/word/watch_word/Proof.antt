@@ -7,8 +7,8 @@ use native.Mathlib.Omega.{arith}
 use Rattle.machine.specs.Machine.{assembled}
 use Rattle.machine.specs.Place.{state}
 use Rattle.place_marks.specs.Word.{mapIn}
-use Rattle.watch_word.proofs.Classes.{by-watched-class, data-vfp}
-use Rattle.watch_word.proofs.Worded.{stopping}
+use Rattle.watched_class.proofs.Classes.{by-watched-class, data-vfp}
+use Rattle.watched_class.proofs.Worded.{stopping}
 use Rattle.watch_word.proofs.word.watch_word.Statement.{statement}
 use Rattle.watch_word.proofs.word.watch_word.Tie as tie
 

@@ -1,4 +1,4 @@
--- `watch_word::class::watched_class` meets its contract.
+-- `watched_class::watched_class` meets its contract.
 use Prim.Native.Nat.{ℕ}
 use borrow.Author.Needs.{needs}
 use mathlib.Core.Bool.{true, false}
@@ -11,9 +11,9 @@ use Rattle.place_marks.proofs.Places.{place-nzcv}
 use Rattle.place_marks.specs.Word.{mapIn}
 use Rattle.word_class.proofs.Classes.{masked-group, masked-access, class-foreign, class-skipped, class-access, class-group}
 use Rattle.word_class.proofs.Words.{condition-field}
-use Rattle.watch_word.proofs.Classes.{group-always, access-always, told-always, told-foreign, told-known, told-hangs}
-use Rattle.watch_word.proofs.class.watched_class.Statement.{statement}
-use Rattle.watch_word.proofs.class.watched_class.Tie as tie
+use Rattle.watched_class.proofs.Classes.{group-always, access-always, told-always, told-foreign, told-known, told-hangs}
+use Rattle.watched_class.proofs.watched_class.Statement.{statement}
+use Rattle.watched_class.proofs.watched_class.Tie as tie
 
 bit-requires : tie.Need-bit-requires
 bit-requires c κs = search needs

@@ -5,7 +5,7 @@ ghost use Prim.Native.Nat.{ℕ};
 ghost use Rattle.machine.specs.Place.{nzcv};
 ghost use Rattle.meaning.specs.Map.{known};
 ghost use Rattle.place_marks.specs.Word.{mapIn};
-ghost use Rattle.watch_word.specs.Class.{watchedClassOf, disabledWatchedClass, enabledWatchedClass};
+ghost use Rattle.watched_class.specs.Class.{watchedClassOf, disabledWatchedClass, enabledWatchedClass};
 use bits::field::bit;
 use bits::field::bits;
 use bits::psr::Psr;
@@ -29,7 +29,7 @@ pub enum WatchedClass {
 }
 
 // In an enabled unit: by the tests of `class_of` of crate word_class, in the same order.
-pub(crate) fn watched_class(marks: u64, op: u32, flags: Psr) -> WatchedClass
+fn watched_class(marks: u64, op: u32, flags: Psr) -> WatchedClass
     ensures { λ c. ⌜ ((w : List ℕ) → c ≡ watchedClassOf (known (mapIn marks w) nzcv) op flags) ⌝ }
 {
     if op & 0xFF00_0E00 == 0xEE00_0A00 {
@@ -61,7 +61,7 @@ pub(crate) fn watched_class(marks: u64, op: u32, flags: Psr) -> WatchedClass
 }
 
 // By FPEXC and its mark too. That FPEXC is known and enables the unit is tested first, as the most frequent.
-pub(crate) fn enabled_watched_class(marks: u64, op: u32, flags: Psr, fpexc: u32) -> WatchedClass
+pub fn enabled_watched_class(marks: u64, op: u32, flags: Psr, fpexc: u32) -> WatchedClass
     ensures { λ c. ⌜ ((w : List ℕ) → c ≡ enabledWatchedClass (mapIn marks w) fpexc op flags) ⌝ }
 {
     if is_known(marks, EXC) & bit(fpexc, 30) {

@@ -22,11 +22,11 @@ use Rattle.word_class.proofs.Words as Words
 use Rattle.word_class.proofs.Classes.{vfp-word}
 use Rattle.hangs.proofs.Hangs.{both}
 use Rattle.word_class.proofs.Enables.{exempt-class}
-use Rattle.watch_word.proofs.Enables.{told-on, free-on, not-told, told-off, pc-unknown}
-use Rattle.watch_word.specs.Class.{seenAs, watchedClassOf, disabledWatchedClass, enabledWatchedClass}
-use Rattle.watch_word.specs.declared.class.WatchedClass.{WatchedClass}
-use Rattle.watch_word.specs.declared.class.WatchedClass.the-variants.{Data, Access, Transfer, Skipped, Foreign, Hangs, Off}
-use Rattle.watch_word.proofs.Worded.{always, flags-unknown, holding, failing}
+use Rattle.watched_class.proofs.Enables.{told-on, free-on, not-told, told-off, pc-unknown}
+use Rattle.watched_class.specs.Class.{seenAs, watchedClassOf, disabledWatchedClass, enabledWatchedClass}
+use Rattle.watched_class.specs.declared.WatchedClass.{WatchedClass}
+use Rattle.watched_class.specs.declared.WatchedClass.the-variants.{Data, Access, Transfer, Skipped, Foreign, Hangs, Off}
+use Rattle.watched_class.proofs.Worded.{always, flags-unknown, holding, failing}
 
 -- ---- the tests
 

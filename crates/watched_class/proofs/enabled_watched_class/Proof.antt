@@ -1,9 +1,9 @@
--- `watch_word::class::enabled_watched_class` meets its contract.
+-- `watched_class::enabled_watched_class` meets its contract.
 use borrow.Author.Needs.{needs}
 use Rattle.place_marks.proofs.Places.{place-exc}
-use Rattle.watch_word.proofs.Classes.{surely-on, not-surely}
-use Rattle.watch_word.proofs.class.enabled_watched_class.Statement.{statement}
-use Rattle.watch_word.proofs.class.enabled_watched_class.Tie as tie
+use Rattle.watched_class.proofs.Classes.{surely-on, not-surely}
+use Rattle.watched_class.proofs.enabled_watched_class.Statement.{statement}
+use Rattle.watched_class.proofs.enabled_watched_class.Tie as tie
 
 pub enabled-watched-class-spec : {M : Type 1} → statement M
 enabled-watched-class-spec =

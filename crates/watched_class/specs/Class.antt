@@ -11,8 +11,8 @@ use Rattle.word_class.specs.Word.{foreignWord, exempt}
 use Rattle.word_class.specs.Class.{classOf}
 use Rattle.word_class.specs.declared.class.Class.{Class}
 use Rattle.word_class.specs.declared.class.Class.the-variants as C
-use Rattle.watch_word.specs.declared.class.WatchedClass.{WatchedClass}
-use Rattle.watch_word.specs.declared.class.WatchedClass.the-variants.{Data, Access, Transfer, Skipped, Foreign, Hangs, Off}
+use Rattle.watched_class.specs.declared.WatchedClass.{WatchedClass}
+use Rattle.watched_class.specs.declared.WatchedClass.the-variants.{Data, Access, Transfer, Skipped, Foreign, Hangs, Off}
 
 -- a class of the plain run
 abbrev pub seenAs : Class → WatchedClass

@@ -1,4 +1,4 @@
--- `watch_word::class::disabled_watched_class` meets its contract.
+-- `watched_class::disabled_watched_class` meets its contract.
 use Prim.Native.Nat.{ℕ}
 use native.Mathlib.Omega.{arith}
 use mathlib.Core.Path.{_∙_, ap}
@@ -8,9 +8,9 @@ use Rattle.bits.specs.Psr.{holds}
 use Rattle.place_marks.specs.Word.{mapIn}
 use Rattle.place_marks.proofs.Places.{place-exc, place-nzcv, place-core}
 use Rattle.word_class.proofs.Words.{condition-field}
-use Rattle.watch_word.proofs.Classes.{off-foreign, off-hangs, off-skipped, off-class}
-use Rattle.watch_word.proofs.class.disabled_watched_class.Statement.{statement}
-use Rattle.watch_word.proofs.class.disabled_watched_class.Tie as tie
+use Rattle.watched_class.proofs.Classes.{off-foreign, off-hangs, off-skipped, off-class}
+use Rattle.watched_class.proofs.disabled_watched_class.Statement.{statement}
+use Rattle.watched_class.proofs.disabled_watched_class.Tie as tie
 
 pub disabled-watched-class-spec : {M : Type 1} → statement M
 disabled-watched-class-spec =

@@ -1,2 +1,0 @@
--- What one watched word promises.
-pub mod Class

@@ -1,0 +1,2 @@
+-- The class of a watched word.
+pub mod Class
