@@ -5,11 +5,9 @@ use super::output::low;
 use super::output::print;
 use libc::STDOUT_FILENO;
 use machine::place::WINDOW;
-use records::marks;
-use records::number::fill;
-use records::number::number_at;
-use records::write;
-use replay::field;
+use record_numbers::fill;
+use record_numbers::number_at;
+use record_refusal::field;
 use report::line;
 use text::text::Text;
 
@@ -119,16 +117,16 @@ fn tell_parts(
     if window_marks.len() != words {
         return;
     }
-    if !marks::bits_only(bytes, field::MARKS + words, WINDOW) {
+    if !record_marks::bits_only(bytes, field::MARKS + words, WINDOW) {
         return;
     }
-    if !marks::bits_only(bytes, field::WINDOW_MARKS + words, words) {
+    if !record_marks::bits_only(bytes, field::WINDOW_MARKS + words, words) {
         return;
     }
-    let known = marks::word(bytes, field::MARKS + words);
+    let known = record_marks::word(bytes, field::MARKS + words);
     fill(bytes, field::VALUES, state);
     fill(bytes, field::WINDOW_VALUES, window);
-    marks::fill(bytes, field::WINDOW_MARKS + words, window_marks);
+    record_marks::fill(bytes, field::WINDOW_MARKS + words, window_marks);
     fill(bytes, field::LIST + 2 * words, list);
     outcome::report(
         kind,
@@ -197,7 +195,7 @@ pub fn write(
         return;
     }
     let mut to = [0u8; LONGEST];
-    let n = write::write(state, marks, window, window_marks, base, list, &mut to);
+    let n = record_writer::write(state, marks, window, window_marks, base, list, &mut to);
     write_file(&to[..n]);
 }
 

@@ -19,9 +19,10 @@ use Rattle.watch.specs.declared.Watched.{Watched}
 use Rattle.watch.specs.Watch.{Reply, answered, watchReply}
 use Rattle.limits.specs.Marks.{bitsOnly}
 use Rattle.records.specs.Recorded.{ofBytes, wordOfMarks}
-use Rattle.replay.specs.Replay.{stateIn, mapOf, wellFormed, refusalOf, replayReply}
+use Rattle.record_refusal.specs.Refusal.{stateIn, mapOf, wellFormed, refusalOf}
+use Rattle.replay.specs.Replay.{replayReply}
 use Rattle.replay.specs.Promise.{ReplayPromise}
-use Rattle.replay.proofs.Refusing.{accepted}
+use Rattle.record_refusal.proofs.Refusing.{accepted}
 use Rattle.known_places.specs.Count.{knownPlaces}
 use Rattle.answer.specs.Answer.{answerOf}
 use Rattle.answer.proofs.Bounds.{Fits, watch-fits}

@@ -11,7 +11,8 @@ use Rattle.place_marks.specs.Word.{wordOf}
 use Rattle.layout.specs.State.{encode}
 use Rattle.watch.specs.Watch.{Reply}
 use Rattle.records.specs.Recorded.{Recorded, ofBytes, wordOfMarks}
-use Rattle.replay.specs.Replay.{refusalOf, replayReply}
+use Rattle.record_refusal.specs.Refusal.{refusalOf}
+use Rattle.replay.specs.Replay.{replayReply}
 use Rattle.outcomes.specs.Outcome.{invalidArgument}
 use Rattle.outcomes.specs.WatchOutcome.{WatchOutcome, watchOutcome, reportedWatch}
 use Rattle.outcomes.specs.WatchPromise.{WatchPromise}

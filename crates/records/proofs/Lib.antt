@@ -1,6 +1,5 @@
--- The laws of a record's numbers and marks, and of its writer.
+-- The laws of a record's numbers and marks.
 pub mod Laws
 pub mod Written
 pub mod MarkWords
-pub mod Laying
 pub mod Small

@@ -1,4 +1,1 @@
-// The bytes of a recorded cycle: its numbers, its marks, and their writer.
-pub mod marks;
-pub mod number;
-pub mod write;
+// The bytes of a recorded cycle as definitions, with their laws. No code.

@@ -1,5 +1,3 @@
 -- The laws of the replay.
-pub mod Fields
-pub mod Refusing
 mod Running
 pub mod Recording

@@ -24,11 +24,12 @@ use Rattle.records.specs.Recorded.{Recorded, numbersFor, recordedIn, toBytes, o
 use Rattle.records.proofs.Written.{numbers-written, read-back, written-sized, written-back, stated}
 use Rattle.records.proofs.MarkWords.{word-of-marks, marks-of-word, marks-length, marks-bits}
 use Rattle.records.proofs.Small.{Below, below-take, below-drop, writable, stated-is, numbers-below}
-use Rattle.replay.specs.Replay.{limitIn, fits, wellFormed, refusalOf, refusedReply, replayReply, Fitting}
+use Rattle.record_refusal.specs.Refusal.{limitIn, fits, wellFormed, refusalOf, Fitting}
+use Rattle.replay.specs.Replay.{refusedReply, replayReply}
 use Rattle.replay.specs.Recording.{Cycle, startOf, mapFor, limitFor, watchFor, bytesFor, cycleIn}
 use Rattle.replay.specs.Recording.{Recordable, ReadBack, Held, Replayed, WrittenBack}
-use Rattle.replay.proofs.Fields.{numbers-there, known-is, part, window-length, window-known-length, list-length}
-use Rattle.replay.proofs.Refusing.{limited, accepted, accepted-size}
+use Rattle.record_refusal.proofs.Fields.{numbers-there, known-is, part, window-length, window-known-length, list-length}
+use Rattle.record_refusal.proofs.Refusing.{limited, accepted, accepted-size}
 
 -- the words of a machine pass the test
 valid-test : (l : List ℕ) → Valid l → valid l ≡ true

@@ -24,10 +24,11 @@ use Rattle.place_marks.proofs.Word.{word-marks}
 use Rattle.watch.specs.Watch.{Reply, watchReply}
 use Rattle.records.specs.Number.{numbersOf}
 use Rattle.records.specs.Recorded.{ofBytes}
-use Rattle.replay.specs.Replay.{stateIn, mapOf, refusalOf, replayReply, Fitting, Accepted}
+use Rattle.record_refusal.specs.Refusal.{stateIn, mapOf, refusalOf, Fitting, Accepted}
+use Rattle.replay.specs.Replay.{replayReply}
 use Rattle.replay.specs.Promise.{Ran, CycleRan, ReplayPromise}
-use Rattle.replay.proofs.Fields.{window-known-is, list-is, list-length}
-use Rattle.replay.proofs.Refusing.{well-formed, accepted}
+use Rattle.record_refusal.proofs.Fields.{window-known-is, list-is, list-length}
+use Rattle.record_refusal.proofs.Refusing.{well-formed, accepted}
 
 -- equal machines, windows and marks promise the same
 pub carried : (base base₁ : ℕ) (l l₁ : List ℕ) (m m₁ : Machine) (w w₁ : List ℕ) (k k₁ : ℕ) (v v₁ : List ℕ) (x : Reply) (k′ : ℕ)

@@ -11,7 +11,8 @@ use Rattle.place_marks.specs.Word.{mapIn, wordOf}
 use Rattle.watch.specs.Watch.{Reply}
 use Rattle.watch.specs.Promise.{Promise, WordPromise}
 use Rattle.records.specs.Recorded.{Recorded, ofBytes, wordOfMarks}
-use Rattle.replay.specs.Replay.{refusalOf, replayReply}
+use Rattle.record_refusal.specs.Refusal.{refusalOf}
+use Rattle.replay.specs.Replay.{replayReply}
 
 -- what the watched run promises from a machine, a window, a word of marks and window marks, of its answer x and the word m that it hands back
 abbrev pub Ran : ℕ → List ℕ → Machine → List ℕ → ℕ → List ℕ → Reply → ℕ → Type 0

@@ -13,7 +13,8 @@ use Rattle.place_marks.specs.Word.{mapIn}
 use Rattle.layout.specs.State.{encode, decode}
 use Rattle.watch.specs.Watch.{Reply, limitOf, watchReply}
 use Rattle.records.specs.Recorded.{toBytes, ofBytes, wordOfMarks, recordOf}
-use Rattle.replay.specs.Replay.{stateIn, mapOf, refusalOf, refusedReply, replayReply}
+use Rattle.record_refusal.specs.Refusal.{stateIn, mapOf, refusalOf}
+use Rattle.replay.specs.Replay.{refusedReply, replayReply}
 
 -- a control cycle: a machine with the word of its marks, a window with its own, and the list that is run over them
 pub record Cycle : Type 0 where

@@ -1,7 +1,7 @@
 // The watched run of a record that is not refused.
 ghost use mathlib.Core.Path.{_≡_};
 ghost use mathlib.Core.Bool.{true, false};
-ghost use Prim.Native.Nat.{_≤_};
+ghost use Prim.Native.Nat.{_^_, _<_, _≤_};
 ghost use lib.ListN.{length, getD, take};
 ghost use Rattle.records.specs.Number.{numbersOf};
 ghost use Rattle.layout.specs.State.{decode};
@@ -9,18 +9,22 @@ ghost use Rattle.records.specs.Recorded.{ofBytes};
 ghost use Rattle.place_marks.specs.Word.{mapIn};
 ghost use Rattle.known_places.specs.Count.{knownPlaces};
 ghost use Rattle.watch.specs.Watch.{answered};
-ghost use Rattle.replay.specs.Replay.{wellFormed, Fitting, Accepted};
+ghost use Rattle.record_refusal.specs.Refusal.{wellFormed, Fitting, Accepted};
 ghost use Rattle.replay.specs.Promise.{Ran, CycleRan};
-use super::field;
-use super::refusal::index;
 use layout::state::decode;
 use machine::Machine;
 use machine::place::WINDOW;
-use records::marks;
-use records::number::fill;
-use records::number::nth;
+use record_numbers::fill;
+use record_numbers::nth;
+use record_refusal::field;
 use watch::Watched;
 use watch::watch;
+
+fn index(x: u32) -> usize
+    ensures { λ r. ⌜ (r ≡ x) × (r < 2 ^ 32) ⌝ }
+{
+    x as usize
+}
 
 // The machine of the words before the window.
 fn machine_of(bytes: &[u8], words: usize) -> Machine
@@ -67,8 +71,8 @@ pub(crate) fn run_cycle(bytes: &[u8], window: &mut [u32], window_marks: &mut [u8
 {
     let words = window.len();
     let machine = machine_of(bytes, words);
-    let known = marks::word(bytes, field::MARKS + words);
+    let known = record_marks::word(bytes, field::MARKS + words);
     fill(bytes, field::WINDOW_VALUES, window);
-    marks::fill(bytes, field::WINDOW_MARKS + words, window_marks);
+    record_marks::fill(bytes, field::WINDOW_MARKS + words, window_marks);
     run_list(bytes, machine, known, window, window_marks)
 }

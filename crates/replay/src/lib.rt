@@ -1,7 +1,5 @@
 // The replay of a recorded cycle.
 mod cycle;
-pub mod field;
-mod refusal;
 
 ghost use mathlib.Core.Path.{_≡_};
 ghost use Rattle.place_marks.specs.Word.{mapIn};
@@ -11,7 +9,7 @@ ghost use Rattle.replay.specs.Promise.{ReplayPromise};
 use cycle::run_cycle;
 use limits::marks::count_ones;
 use machine::Machine;
-use refusal::refusal;
+use record_refusal::refusal;
 use run_word::Stop;
 use watch::Watched;
 

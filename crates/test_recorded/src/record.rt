@@ -1,7 +1,7 @@
 // A record: 128 words of 32 bits, lowest byte first. differential/oracle/src/bin/record.rs, which writes them, says what each is.
 ghost use Prim.Native.Nat.{_+_, _<_};
 ghost use lib.ListN.{length};
-use records::number::number_at;
+use record_numbers::number_at;
 
 pub const CALL: usize = 0;
 

@@ -1,6 +1,6 @@
 -- `replay::replay` meets its contract.
 use Rattle.replay.proofs.Running.{refused-promise, known-refused, run-promise}
-use Rattle.replay.proofs.Refusing.{accepted, accepted-marks}
+use Rattle.record_refusal.proofs.Refusing.{accepted, accepted-marks}
 use lib.ListN.{length}
 use denote.Ref.{now}
 use mathlib.Core.Path.{sym, _∙_}

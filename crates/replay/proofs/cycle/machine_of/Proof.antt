@@ -1,5 +1,5 @@
 -- `replay::cycle::machine_of` meets its contract.
-use Rattle.replay.proofs.Refusing.{valid-state, decoded-state}
+use Rattle.record_refusal.proofs.Refusing.{valid-state, decoded-state}
 use denote.Ref.{now}
 use mathlib.Core.Path.{_∙_}
 use borrow.Author.Needs.{needs}

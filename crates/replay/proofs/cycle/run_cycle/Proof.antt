@@ -1,6 +1,6 @@
 -- `replay::cycle::run_cycle` meets its contract.
 use Rattle.replay.proofs.Running.{carried, known-bits, window-bits, short-list, fitting-as}
-use Rattle.replay.proofs.Fields.{window-is, known-is, window-known-is}
+use Rattle.record_refusal.proofs.Fields.{window-is, known-is, window-known-is}
 use Rattle.records.specs.Recorded.{ofBytes, wordOfMarks}
 use Rattle.records.specs.Number.{numbersOf}
 use lib.ListN.{take, drop}

@@ -1,6 +1,6 @@
 -- `replay::cycle::run_list` meets its contract.
 use Rattle.replay.proofs.Running.{carried, count-fits, within-list}
-use Rattle.replay.proofs.Fields.{base-is}
+use Rattle.record_refusal.proofs.Fields.{base-is}
 use lib.Seq.{length-take-le}
 use lib.ListN.{length, take}
 use denote.Ref.{now}

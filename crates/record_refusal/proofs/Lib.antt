@@ -1,0 +1,3 @@
+-- The laws of a record's fields, and of its refusals.
+pub mod Fields
+pub mod Refusing

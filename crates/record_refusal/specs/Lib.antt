@@ -1,0 +1,2 @@
+-- Which record is turned away.
+pub mod Refusal
