@@ -1,7 +1,6 @@
 -- What one step of a word does to the words of its registers, over the precision.
 use Prim.Native.Nat.{ℕ, _%_, _/_, _^_}
-use native.Mathlib.Omega.{arith}
-use mathlib.Core.Path.{_≡_, refl, ap, _∙_}
+use mathlib.Core.Path.{_≡_, refl, ap}
 use mathlib.Core.Bool.{Bool, true, false, cond}
 use mathlib.Core.List.{[], _∷_}
 use lib.Ieee.{Format, binary32, binary64}
@@ -12,7 +11,7 @@ use Rattle.numbers.specs.declared.arithmetic.Arithmetic.{Arithmetic}
 use Rattle.numbers.specs.Arithmetic.{accumulates}
 use Rattle.floats.specs.Flush.{flush}
 use Rattle.directed.specs.Directed.{appliedBy, arithmeticBy}
-use Rattle.directed.proofs.Control.{without-d, kept}
+use Rattle.directed.proofs.Control.{without-d}
 use Rattle.short_vectors.specs.Register.{wordsOf, valuesOf, written}
 use Rattle.arithmetic_steps.specs.Arithmetic.{arithmeticStep}
 
@@ -43,8 +42,3 @@ pub rounded-step : (f : Format) (c : ℕ) (kind : Arithmetic) (d n m : ℕ) (st 
     → step (arithmeticStep f c kind d n m) st ≡ store f st d (flush f c (appliedBy f c kind (fetch f st n) (fetch f st m) (fetch f st d)))
 unfolding arithmeticBy
 rounded-step f c kind d n m st = arithmetic-step f c kind d n m st
-
--- where FPSCR bits 24:22 are clear
-pub unflushed-step : (f : Format) (c : ℕ) (kind : Arithmetic) (d n m : ℕ) (st : State) → c / 2 ^ 22 % 8 ≡ 0
-    → step (arithmeticStep f c kind d n m) st ≡ store f st d (appliedBy f c kind (fetch f st n) (fetch f st m) (fetch f st d))
-unflushed-step f c kind d n m st h = arithmetic-step f c kind d n m st ∙ ap (store f st d) (kept f c kind (fetch f st n) (fetch f st m) (fetch f st d) (omega arith))

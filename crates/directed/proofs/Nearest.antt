@@ -1,20 +1,24 @@
 -- At `Nearest` the arithmetic of one step is that of `numbers`, which native floats do. Assumes nothing.
-use mathlib.Core.Path.{_≡_, refl, sym, ap, _∙_}
+use mathlib.Core.Path.{_≡_, refl, sym, ap, _∙_, subst}
 use Prim.Native.Nat.{ℕ, _*_, _/_, _%_, _^_, _<_}
 use borrow.Author.Tests.{eq-eqb}
-use lib.Ieee.{Float, Format, top, neg, add, sub, ofBits, toBits}
+use mathlib.Core.Bool.{Bool, false, not}
+use lib.Dec.{T}
+use lib.Ieee.{Float, Format, top, neg, add, sub, isNan, ofBits, toBits}
+use lib.Ieee.Bits.{toBits-ofBits}
+use Rattle.floats.specs.Flush.{flush}
+use Rattle.floats.proofs.Flushing.{not-subnormal, flush-none}
 use Rattle.rounding.specs.Rounding.{roundingOf}
 use Rattle.rounding.specs.declared.rounding.Rounding.{Rounding}
 use Rattle.rounding.specs.declared.rounding.Rounding.the-variants.{Nearest}
-use Rattle.nans.specs.Nan.{defaultNan}
 use Rattle.operators.specs.Operators.{sum, difference, product, quotient}
-use Rattle.numbers.specs.Arithmetic.{apply, applied}
+use Rattle.numbers.specs.Arithmetic.{apply, applied, IsQuick}
 use Rattle.numbers.specs.declared.arithmetic.Arithmetic.{Arithmetic}
 use Rattle.numbers.specs.declared.arithmetic.Arithmetic.the-variants.{MultiplyAccumulate, MultiplySubtract, NegateMultiplySubtract, NegateMultiplyAccumulate, Multiply, NegateMultiply, Add, Subtract, Divide}
 use Rattle.numbers.proofs.Applying.{word-of-value}
-use Rattle.directed.proofs.Values.{number-applied}
+use Rattle.directed.proofs.Values.{applied-value, applied-lt}
 use Rattle.operators.proofs.Nearest.{sum-nearest, difference-nearest, product-nearest, quotient-nearest}
-use Rattle.directed.specs.Directed.{applyBy, appliedBy}
+use Rattle.directed.specs.Directed.{applyBy, appliedBy, arithmeticBy}
 
 pub apply-nearest : (f : Format) (kind : Arithmetic) (n m d : Float) → applyBy Nearest f kind n m d ≡ apply f kind n m d
 apply-nearest f MultiplyAccumulate n m d = sum-nearest f d (product Nearest f n m) ∙ ap (add f d) (product-nearest f n m)
@@ -34,12 +38,21 @@ mode-nearest control h = rw (eq-eqb (control / 2 ^ 22 % 4) 0 h) refl
 
 -- a native result that is no NaN is the word by any setting of mode 00
 pub native-applied : (f : Format) (control : ℕ) (kind : Arithmetic) (n m d : ℕ) → n < 2 * top f → m < 2 * top f → d < 2 * top f → control / 2 ^ 22 % 4 ≡ 0
-    → (applied f kind n m d ≡ defaultNan f → ⊥) → applied f kind n m d ≡ appliedBy f control kind n m d
-native-applied f control kind n m d p q r z h = same ∙ number-applied f control kind n m d p q r (λ e. h (same ∙ e))
+    → isNan (apply f kind (ofBits f n) (ofBits f m) (ofBits f d)) ≡ false → applied f kind n m d ≡ appliedBy f control kind n m d
+native-applied f control kind n m d p q r z h =
+    word-of-value f kind n m d ∙ ap (toBits f) (sym same)
+    ∙ toBits-ofBits f (appliedBy f control kind n m d) (applied-lt f control kind n m d p q r) (subst (λ (x : Bool). T (not x)) (sym (ap isNan same ∙ h)) tt)
   where
-    same : applied f kind n m d ≡ toBits f (applyBy (roundingOf control) f kind (ofBits f n) (ofBits f m) (ofBits f d))
+    same : ofBits f (appliedBy f control kind n m d) ≡ apply f kind (ofBits f n) (ofBits f m) (ofBits f d)
     same =
-        word-of-value f kind n m d
-        ∙ ap (toBits f)
-        (sym (apply-nearest f kind (ofBits f n) (ofBits f m) (ofBits f d))
-        ∙ ap (λ (mode : Rounding). applyBy mode f kind (ofBits f n) (ofBits f m) (ofBits f d)) (sym (mode-nearest control z)))
+        applied-value f control kind n m d p q r
+        ∙ ap (λ (mode : Rounding). applyBy mode f kind (ofBits f n) (ofBits f m) (ofBits f d)) (mode-nearest control z)
+        ∙ apply-nearest f kind (ofBits f n) (ofBits f m) (ofBits f d)
+
+-- and where it is no subnormal either, it is stored as it is
+pub quick-stored : (f : Format) (control : ℕ) (kind : Arithmetic) (n m d bits : ℕ) → n < 2 * top f → m < 2 * top f → d < 2 * top f → control / 2 ^ 22 % 4 ≡ 0
+    → IsQuick f kind n m d bits → bits ≡ arithmeticBy f control kind n m d
+unfolding arithmeticBy
+quick-stored f control kind n m d bits p q r z k =
+    sym (flush-none f control bits (not-subnormal f bits (k .normal)))
+    ∙ ap (flush f control) (k .word ∙ native-applied f control kind n m d p q r z (k .number))

@@ -7,13 +7,13 @@ use native.Mathlib.Nat.{le-trans, le-of-eq, lt-of-le-of-lt, lt-of-lt-of-le, lt-o
 use native.Mathlib.Decide.{decLt}
 use native.Mathlib.Omega.{arith}
 use lib.IntN.{pos}
-use lib.Dec.{leb, ltb}
+use lib.Dec.{T, leb, ltb}
 use lib.Pow.{pow-pos}
-use borrow.Author.Tests.{lt-ltb, le-ltb, eq-eqb, ne-eqb}
+use borrow.Author.Tests.{ltb-false, lt-ltb, le-ltb, eq-eqb, ne-eqb}
 use lib.Ieee.{Float, nan, inf, fin, Format, binary32, binary64, emax, low, up, down, hid, ones, top, ofBits}
 use lib.Ieee.Fits.{down-pos}
 use lib.Ieee.Exact.{HasValue}
-use Rattle.floats.specs.Flush.{flushes, flush, flushed}
+use Rattle.floats.specs.Flush.{flushes, flush, flushed, subnormal}
 use Rattle.floats.proofs.Units.{hid-pos, sign-bit, reads-low, reads-mid, reads-inf}
 use Rattle.floats.proofs.Patterns.{nan-of-fields}
 
@@ -52,6 +52,17 @@ flush-large f control b l = sym (flush-is f control b (flushes control) false re
 
 abbrev pub NotSubnormal : Format → ℕ → Type 0
 NotSubnormal f b = (b % top f ≡ 0) ⊎ (hid f ≤ b % top f)
+
+pub not-subnormal : (f : Format) (b : ℕ) → subnormal f b ≡ false → NotSubnormal f b
+not-subnormal f b e = go (ltb 0 (b % top f)) (ltb (b % top f) (hid f)) refl refl e
+  where
+    least : (z : ℕ) → z ≤ 0 → z ≡ 0
+    least z h = omega arith
+
+    go : (x y : Bool) → ltb 0 (b % top f) ≡ x → ltb (b % top f) (hid f) ≡ y → (x && y) ≡ false → NotSubnormal f b
+    go false y p q e = inl (least (b % top f) (ltb-false 0 (b % top f) p))
+    go true false p q e = inr (ltb-false (b % top f) (hid f) q)
+    go true true p q e = absurd (subst T e tt)
 
 pub flush-none : (f : Format) (control b : ℕ) → NotSubnormal f b → flush f control b ≡ b
 flush-none f control b (inl z) =

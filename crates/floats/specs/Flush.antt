@@ -9,6 +9,10 @@ use lib.Ieee.{Float, nan, inf, fin, Format, emax, up, down, hid, top}
 abbrev pub flushes : ℕ → Bool
 flushes control = eqb (control / 2 ^ 24 % 2) 1
 
+-- the pattern of a value that is not 0 and below the least normal one
+abbrev pub subnormal : Format → ℕ → Bool
+subnormal f b = ltb 0 (b % top f) && ltb (b % top f) (hid f)
+
 -- a subnormal's pattern, whose exponent's field is 0, becomes the zero of its sign
 unfoldable pub flush : Format → ℕ → ℕ → ℕ
 flush f control b = cond (flushes control && ltb (b % top f) (hid f)) (b / top f * top f) b

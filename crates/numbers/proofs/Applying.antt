@@ -1,66 +1,21 @@
 -- The arithmetic of one step by the tests that the code makes. Over the format. Assumes nothing.
-use mathlib.Core.Path.{_≡_, refl, sym, ap, _∙_}
-use mathlib.Core.Bool.{true}
-use Prim.Native.Nat.{ℕ, _+_, _*_, _/_}
-use lib.Ieee.{Float, nan, inf, fin, Format, add, sub, mul, div, neg, isNan, ofBits, toBits, nanBits, hid, ones}
-use lib.Ieee.Bits.{nanBits-is}
-use Rattle.numbers.specs.Arithmetic.{apply, applied}
+use mathlib.Core.Path.{_≡_, refl, sym, ap, _∙_, subst}
+use mathlib.Core.Bool.{Bool, true, false}
+use lib.Dec.{T}
+use Prim.Native.Nat.{ℕ}
+use lib.Ieee.{Float, nan, inf, fin, Format, isNan, ne, ofBits, toBits}
+use lib.Ieee.Compare.{nan-differs}
+use Rattle.floats.specs.Flush.{subnormal}
+use Rattle.numbers.specs.Arithmetic.{apply, applied, IsQuick}
 use Rattle.numbers.specs.declared.arithmetic.Arithmetic.{Arithmetic}
-use Rattle.numbers.specs.declared.arithmetic.Arithmetic.the-variants.{MultiplyAccumulate, MultiplySubtract, NegateMultiplySubtract, NegateMultiplyAccumulate, Multiply, NegateMultiply, Add, Subtract, Divide}
 
--- ---- a NaN operand makes a NaN
+-- ---- what differs from itself is a NaN
 
-is-nan : (x : Float) → isNan x ≡ true → x ≡ nan
+number-of : (v : Float) → ne v v ≡ false → isNan v ≡ false
 unfolding isNan
-is-nan nan h = refl
-is-nan (inf s) h = cc
-is-nan (fin s m e) h = cc
-
-add-nan : (f : Format) (x : Float) → add f x nan ≡ nan
-unfolding add
-add-nan f nan = refl
-add-nan f (inf s) = refl
-add-nan f (fin s m e) = refl
-
-mul-nan : (f : Format) (x : Float) → mul f x nan ≡ nan
-unfolding mul
-mul-nan f nan = refl
-mul-nan f (inf s) = refl
-mul-nan f (fin s m e) = refl
-
-div-nan : (f : Format) (x : Float) → div f x nan ≡ nan
-unfolding div
-div-nan f nan = refl
-div-nan f (inf s) = refl
-div-nan f (fin s m e) = refl
-
-sub-nan : (f : Format) (x : Float) → sub f x nan ≡ nan
-unfolding sub neg
-sub-nan f x = add-nan f x
-
-apply-nan-n : (f : Format) (kind : Arithmetic) (y z : Float) → apply f kind nan y z ≡ nan
-unfolding add sub mul div neg
-apply-nan-n f MultiplyAccumulate y z = add-nan f z
-apply-nan-n f MultiplySubtract y z = sub-nan f z
-apply-nan-n f NegateMultiplySubtract y z = add-nan f (neg z)
-apply-nan-n f NegateMultiplyAccumulate y z = sub-nan f (neg z)
-apply-nan-n f Multiply y z = refl
-apply-nan-n f NegateMultiply y z = refl
-apply-nan-n f Add y z = refl
-apply-nan-n f Subtract y z = refl
-apply-nan-n f Divide y z = refl
-
-apply-nan-m : (f : Format) (kind : Arithmetic) (x z : Float) → apply f kind x nan z ≡ nan
-unfolding neg
-apply-nan-m f MultiplyAccumulate x z = ap (add f z) (mul-nan f x) ∙ add-nan f z
-apply-nan-m f MultiplySubtract x z = ap (sub f z) (mul-nan f x) ∙ sub-nan f z
-apply-nan-m f NegateMultiplySubtract x z = ap (add f (neg z)) (mul-nan f x) ∙ add-nan f (neg z)
-apply-nan-m f NegateMultiplyAccumulate x z = ap (sub f (neg z)) (mul-nan f x) ∙ sub-nan f (neg z)
-apply-nan-m f Multiply x z = mul-nan f x
-apply-nan-m f NegateMultiply x z = ap neg (mul-nan f x)
-apply-nan-m f Add x z = add-nan f x
-apply-nan-m f Subtract x z = sub-nan f x
-apply-nan-m f Divide x z = div-nan f x
+number-of nan h = sym nan-differs ∙ h
+number-of (inf s) h = refl
+number-of (fin s m e) h = refl
 
 -- ---- the result's word
 
@@ -68,19 +23,19 @@ pub word-of-value : (f : Format) (kind : Arithmetic) (n m d : ℕ) → applied f
 unfolding applied
 word-of-value f kind n m d = refl
 
--- ---- the code's tests
+-- ---- what the code makes
 
 module _ (f : Format) (kind : Arithmetic) (n m d : ℕ) where
-  pub nan-n : nanBits f n ≡ true → ones f * hid f + hid f / 2 ≡ applied f kind n m d
-  unfolding applied toBits
-  nan-n h = sym (ap (toBits f) (ap (λ (v : Float). apply f kind v (ofBits f m) (ofBits f d)) (is-nan (ofBits f n) (sym (nanBits-is f n) ∙ h)) ∙ apply-nan-n f kind (ofBits f m) (ofBits f d)))
+  -- the floats' own operators
+  pub worked : (v x y z : Float) → v ≡ apply f kind x y z → x ≡ ofBits f n → y ≡ ofBits f m → z ≡ ofBits f d → v ≡ apply f kind (ofBits f n) (ofBits f m) (ofBits f d)
+  worked v x y z w p q s =
+      w ∙ ap (λ (t : Float). apply f kind t y z) p ∙ ap (λ (t : Float). apply f kind (ofBits f n) t z) q ∙ ap (λ (t : Float). apply f kind (ofBits f n) (ofBits f m) t) s
 
-  pub nan-m : nanBits f m ≡ true → ones f * hid f + hid f / 2 ≡ applied f kind n m d
-  unfolding applied toBits
-  nan-m h = sym (ap (toBits f) (ap (λ (v : Float). apply f kind (ofBits f n) v (ofBits f d)) (is-nan (ofBits f m) (sym (nanBits-is f m) ∙ h)) ∙ apply-nan-m f kind (ofBits f n) (ofBits f d)))
-
-  -- the floats' own operators: a NaN operand makes a NaN
-  pub worked : (r : ℕ) (v x y z : Float) → r ≡ toBits f v → v ≡ apply f kind x y z → x ≡ ofBits f n → y ≡ ofBits f m → z ≡ ofBits f d → r ≡ applied f kind n m d
+  -- a result that is equal to itself and no subnormal
+  pub quick : (r : ℕ) (v : Float) → r ≡ toBits f v → v ≡ apply f kind (ofBits f n) (ofBits f m) (ofBits f d) → ne v v ≡ false → subnormal f r ≡ false → IsQuick f kind n m d r
   unfolding applied
-  worked r v x y z e w p q s =
-      e ∙ ap (toBits f) (w ∙ ap (λ (t : Float). apply f kind t y z) p ∙ ap (λ (t : Float). apply f kind (ofBits f n) t z) q ∙ ap (λ (t : Float). apply f kind (ofBits f n) (ofBits f m) t) s)
+  quick r v e w h g = record { word = e ∙ ap (toBits f) w; number = sym (ap isNan w) ∙ number-of v h; normal = g }
+
+-- what is not taken
+pub not-taken : {A : Type 0} {t : Bool} → t ≡ false → t ≡ true → A
+not-taken p h = absurd (subst T (sym h ∙ p) tt)

@@ -1,7 +1,10 @@
 // The arithmetic of one step. Each operator is a float's own and rounds once in its width.
 ghost use mathlib.Core.Path.{_≡_};
 ghost use lib.Ieee.{binary32, binary64, ofBits};
-ghost use Rattle.numbers.specs.Arithmetic.{apply, accumulates, applied};
+ghost use mathlib.Core.Bool.{true, false};
+ghost use Rattle.numbers.specs.Arithmetic.{apply, accumulates, IsQuick};
+use floats::flush::is_subnormal32;
+use floats::flush::is_subnormal64;
 use floats::word::bits32;
 use floats::word::bits64;
 use floats::word::float32;
@@ -25,11 +28,6 @@ pub enum Arithmetic {
     Subtract,
     Divide,
 }
-
-// A NaN that comes out of arithmetic.
-const DEFAULT_NAN32: u32 = 0x7FC0_0000;
-
-const DEFAULT_NAN64: u64 = 0x7FF8_0000_0000_0000;
 
 // The operands n and m of one step, and the old d.
 struct Singles {
@@ -120,27 +118,74 @@ fn apply64(kind: Arithmetic, x: Doubles) -> f64
     }
 }
 
-// The result before flushing. A NaN in n or m answers before any float is made; one in d is a NaN of the kinds that read it.
-pub fn applied32(kind: Arithmetic, n: u32, m: u32, d: u32) -> u32
-    ensures { λ r. ⌜ r ≡ applied binary32 kind n m d ⌝ }
-{
-    if is_nan32(n) {
-        return DEFAULT_NAN32;
-    }
-    if is_nan32(m) {
-        return DEFAULT_NAN32;
-    }
-    bits32(apply32(kind, operands32(n, m, d)))
+// A native result that is stored as it is, whatever FZ says, and whether there is one. It is no NaN and no subnormal.
+pub struct Quick32 {
+    pub taken: bool,
+    pub bits: u32,
 }
 
-pub fn applied64(kind: Arithmetic, n: u64, m: u64, d: u64) -> u64
-    ensures { λ r. ⌜ r ≡ applied binary64 kind n m d ⌝ }
+pub struct Quick64 {
+    pub taken: bool,
+    pub bits: u64,
+}
+
+pub fn none32() -> Quick32
+    ensures { λ r. ⌜ r .taken ≡ false ⌝ }
+{
+    let bits = 0u32;
+    Quick32 { taken: false, bits }
+}
+
+pub fn none64() -> Quick64
+    ensures { λ r. ⌜ r .taken ≡ false ⌝ }
+{
+    let bits = 0u64;
+    Quick64 { taken: false, bits }
+}
+
+// No float is made of a NaN: of one in a d that the kind does not read neither.
+pub fn native32(kind: Arithmetic, n: u32, m: u32, d: u32) -> Quick32
+    ensures { λ r. ⌜ (r .taken ≡ true → IsQuick binary32 kind n m d (r .bits)) ⌝ }
+{
+    if is_nan32(n) {
+        return none32();
+    }
+    if is_nan32(m) {
+        return none32();
+    }
+    if is_nan32(d) {
+        return none32();
+    }
+    let x = apply32(kind, operands32(n, m, d));
+    if x != x {
+        return none32();
+    }
+    let bits = bits32(x);
+    if is_subnormal32(bits) {
+        return none32();
+    }
+    Quick32 { taken: true, bits }
+}
+
+pub fn native64(kind: Arithmetic, n: u64, m: u64, d: u64) -> Quick64
+    ensures { λ r. ⌜ (r .taken ≡ true → IsQuick binary64 kind n m d (r .bits)) ⌝ }
 {
     if is_nan64(n) {
-        return DEFAULT_NAN64;
+        return none64();
     }
     if is_nan64(m) {
-        return DEFAULT_NAN64;
+        return none64();
     }
-    bits64(apply64(kind, operands64(n, m, d)))
+    if is_nan64(d) {
+        return none64();
+    }
+    let y = apply64(kind, operands64(n, m, d));
+    if y != y {
+        return none64();
+    }
+    let bits = bits64(y);
+    if is_subnormal64(bits) {
+        return none64();
+    }
+    Quick64 { taken: true, bits }
 }

@@ -1,7 +1,7 @@
 -- Where LEN is 0, from a step on the registers that a word names to what the word means, over the precision.
 use Prim.Native.Nat.{ℕ, zero, suc, _/_, _%_, _^_, _<_}
 use native.Mathlib.Omega.{arith}
-use mathlib.Core.Path.{_≡_, refl}
+use mathlib.Core.Path.{_≡_, refl, subst}
 use mathlib.Core.Bool.{Bool, true, false}
 use mathlib.Core.List.{List, [], _∷_}
 use lib.Dec.{ltb}
@@ -43,12 +43,9 @@ nine thumb f w (suc (suc (suc (suc (suc (suc (suc (suc (suc (suc n)))))))))) h g
 pub in-control : (fpscr : ℕ) → fpscr / 2 ^ 16 % 8 ≡ 0 → fpscr % 2 ^ 28 / 2 ^ 16 % 8 ≡ 0
 in-control fpscr h = omega arith
 
--- and so do FZ and the mode
-pub in-control-24 : (fpscr : ℕ) → fpscr / 2 ^ 22 % 8 ≡ 0 → fpscr % 2 ^ 28 / 2 ^ 22 % 8 ≡ 0
-in-control-24 fpscr h = omega arith
-
-pub in-control-mode : (fpscr : ℕ) → fpscr / 2 ^ 22 % 4 ≡ 0 → fpscr % 2 ^ 28 / 2 ^ 22 % 4 ≡ 0
-in-control-mode fpscr h = omega arith
+-- a step after one that changed nothing
+pub unchanged : (x : Step) {s s₁ : List ℕ} (s′ : List ℕ) → s₁ ≡ s → Stepped x s₁ s′ → Stepped x s s′
+unchanged x s′ e h = subst (λ (t : List ℕ). Stepped x t s′) e h
 
 module _ (f : Format) (w : ℕ) (s : List ℕ) (fpscr : ℕ) (s′ : List ℕ) (scalar : fpscr / 2 ^ 16 % 8 ≡ 0) where
   pub scalar-done : (n : ℕ) → 0 < n → n < 10 → {d a b : ℕ} {k : Arithmetic} → k ≡ arithmeticOf (operationNumbered n) → d ≡ regD f w → a ≡ regN f w → b ≡ regM f w

@@ -5,12 +5,10 @@ ghost use lib.Ieee.{binary32, binary64};
 ghost use Rattle.decoding.specs.Operation.{operationNumbered};
 ghost use Rattle.processing.specs.Data.{Handled, namedTree};
 ghost use Rattle.processing.specs.declared.Processed.the-variants.{Done};
-use arithmetic_steps::arithmetic::native_double;
-use arithmetic_steps::arithmetic::native_single;
+use arithmetic_steps::arithmetic::quick_double;
+use arithmetic_steps::arithmetic::quick_single;
 use arithmetic_steps::arithmetic::rounded_double;
 use arithmetic_steps::arithmetic::rounded_single;
-use arithmetic_steps::arithmetic::unflushed_double;
-use arithmetic_steps::arithmetic::unflushed_single;
 use decoding::fields::double_d;
 use decoding::fields::double_m;
 use decoding::fields::double_n;
@@ -28,12 +26,7 @@ pub fn scalar_single(s: &mut [u32; 32], fpscr: u32, number: u8, op: u32)
     let d = single_d(op);
     let n = single_n(op);
     let m = single_m(op);
-    if fpscr / 0x40_0000 % 8 == 0 {
-        unflushed_single(s, fpscr % 0x1000_0000, kind, d, n, m);
-        return;
-    }
-    if fpscr / 0x40_0000 % 4 == 0 {
-        native_single(s, fpscr % 0x1000_0000, kind, d, n, m);
+    if quick_single(s, fpscr % 0x1000_0000, kind, d, n, m) {
         return;
     }
     rounded_single(s, fpscr % 0x1000_0000, kind, d, n, m);
@@ -47,12 +40,7 @@ pub fn scalar_double(s: &mut [u32; 32], fpscr: u32, number: u8, op: u32)
     let d = double_d(op);
     let n = double_n(op);
     let m = double_m(op);
-    if fpscr / 0x40_0000 % 8 == 0 {
-        unflushed_double(s, fpscr % 0x1000_0000, kind, d, n, m);
-        return;
-    }
-    if fpscr / 0x40_0000 % 4 == 0 {
-        native_double(s, fpscr % 0x1000_0000, kind, d, n, m);
+    if quick_double(s, fpscr % 0x1000_0000, kind, d, n, m) {
         return;
     }
     rounded_double(s, fpscr % 0x1000_0000, kind, d, n, m);

@@ -6,8 +6,8 @@ ghost use Rattle.decoding.specs.Operation.{operationNumbered};
 ghost use Rattle.processing.specs.Data.{Handled, namedTree};
 ghost use Rattle.processing.specs.declared.Processed.the-variants.{Done};
 ghost use Rattle.processing_marks.specs.Marked.{Marked};
-use arithmetic_steps::arithmetic::native_double;
-use arithmetic_steps::arithmetic::native_single;
+use arithmetic_steps::arithmetic::quick_double;
+use arithmetic_steps::arithmetic::quick_single;
 use arithmetic_steps::arithmetic::rounded_double;
 use arithmetic_steps::arithmetic::rounded_single;
 use decoding::fields::double_d;
@@ -42,8 +42,7 @@ pub fn watched_single(s: &mut [u32; 32], marks: u64, fpscr: u32, number: u8, op:
     let n = single_n(op);
     let m = single_m(op);
     let known = mark_sum_single(marks, kind, d, n, m);
-    if fpscr / 0x40_0000 % 4 == 0 {
-        native_single(s, fpscr % 0x1000_0000, kind, d, n, m);
+    if quick_single(s, fpscr % 0x1000_0000, kind, d, n, m) {
         return known;
     }
     rounded_single(s, fpscr % 0x1000_0000, kind, d, n, m);
@@ -59,8 +58,7 @@ pub fn watched_double(s: &mut [u32; 32], marks: u64, fpscr: u32, number: u8, op:
     let n = double_n(op);
     let m = double_m(op);
     let known = mark_sum_double(marks, kind, d, n, m);
-    if fpscr / 0x40_0000 % 4 == 0 {
-        native_double(s, fpscr % 0x1000_0000, kind, d, n, m);
+    if quick_double(s, fpscr % 0x1000_0000, kind, d, n, m) {
         return known;
     }
     rounded_double(s, fpscr % 0x1000_0000, kind, d, n, m);

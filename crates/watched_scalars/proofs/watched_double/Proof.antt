@@ -5,10 +5,31 @@ use lib.Ieee.{binary64}
 use mathlib.Core.Path.{_∙_, ap}
 use borrow.Author.Needs.{needs}
 use Rattle.decoding.specs.Operation.{arithmeticOf}
-use Rattle.scalars.proofs.Scalar.{scalar-done, in-control-mode}
+use Rattle.arithmetic_steps.specs.Arithmetic.{arithmeticStep}
+use Rattle.scalars.proofs.Scalar.{scalar-done, unchanged}
 use Rattle.watched_scalars.proofs.Marks.{scalar-marked}
 use Rattle.watched_scalars.proofs.watched_double.Statement.{statement}
 use Rattle.watched_scalars.proofs.watched_double.Tie as tie
+
+returns : tie.Need-returns
+returns c =
+    let a = c .before .before .before .before .before .before .before .before .before .args in
+    let pre = c .before .before .before .before .before .before .before .before .before .pre in (
+      scalar-done binary64 (a .op) (now (a .s)) (a .fpscr) _ (pre .2) (a .number) (pre .0) (pre .1) (c .before .before .before .before .before .before .before .arithmetic-of .ensures ∙ ap arithmeticOf (c .before .before .before .before .before .before .before .before .numbered .ensures)) (c .before .before .before .before .before .before .double-d .ensures .0) (c .before .before .before .before .before .double-n .ensures .0) (c .before .before .before .before .double-m .ensures .0)
+          (c .before .quick-double .ensures .0 (c .if1 .taken)),
+      scalar-marked binary64 (a .op) (a .fpscr) (a .marks) _ (pre .2) (a .number) (pre .0) (pre .1) (c .before .before .before .before .before .before .before .arithmetic-of .ensures ∙ ap arithmeticOf (c .before .before .before .before .before .before .before .before .numbered .ensures)) (c .before .before .before .before .before .before .double-d .ensures .0) (c .before .before .before .before .before .double-n .ensures .0) (c .before .before .before .before .double-m .ensures .0)
+          (c .before .before .before .mark-sum-double .ensures (a .fpscr % 2 ^ 28)),
+    )
+
+returns-2 : tie.Need-returns-2
+returns-2 c =
+    let a = c .before .before .before .before .before .before .before .before .before .before .before .args in
+    let pre = c .before .before .before .before .before .before .before .before .before .before .before .pre in (
+      scalar-done binary64 (a .op) (now (a .s)) (a .fpscr) _ (pre .2) (a .number) (pre .0) (pre .1) (c .before .before .before .before .before .before .before .before .before .arithmetic-of .ensures ∙ ap arithmeticOf (c .before .before .before .before .before .before .before .before .before .before .numbered .ensures)) (c .before .before .before .before .before .before .before .before .double-d .ensures .0) (c .before .before .before .before .before .before .before .double-n .ensures .0) (c .before .before .before .before .before .before .double-m .ensures .0)
+          (unchanged (arithmeticStep binary64 (a .fpscr % 2 ^ 28) _ _ _ _) _ (c .before .before .before .quick-double .ensures .1 (c .before .before .if1 .left)) (c .rounded-double .ensures)),
+      scalar-marked binary64 (a .op) (a .fpscr) (a .marks) _ (pre .2) (a .number) (pre .0) (pre .1) (c .before .before .before .before .before .before .before .before .before .arithmetic-of .ensures ∙ ap arithmeticOf (c .before .before .before .before .before .before .before .before .before .before .numbered .ensures)) (c .before .before .before .before .before .before .before .before .double-d .ensures .0) (c .before .before .before .before .before .before .before .double-n .ensures .0) (c .before .before .before .before .before .before .double-m .ensures .0)
+          (c .before .before .before .before .before .mark-sum-double .ensures (a .fpscr % 2 ^ 28)),
+    )
 
 pub watched-double-spec : {M : Type 1} → statement M
 watched-double-spec =
@@ -20,7 +41,7 @@ watched-double-spec =
     (λ c κs. search needs)
     (λ c κs. search needs)
     (λ c κs. search needs)
-    (λ c κs. in-control-mode (c .before .before .before .before .before .before .before .before .args .fpscr) (c .before .if1 .taken))
-    (λ c. let a = c .before .before .before .before .before .before .before .before .before .args in let pre = c .before .before .before .before .before .before .before .before .before .pre in (scalar-done binary64 (a .op) (now (a .s)) (a .fpscr) _ (pre .2) (a .number) (pre .0) (pre .1) (c .before .before .before .before .before .before .before .arithmetic-of .ensures ∙ ap arithmeticOf (c .before .before .before .before .before .before .before .before .numbered .ensures)) (c .before .before .before .before .before .before .double-d .ensures .0) (c .before .before .before .before .before .double-n .ensures .0) (c .before .before .before .before .double-m .ensures .0) (c .native-double .ensures), scalar-marked binary64 (a .op) (a .fpscr) (a .marks) _ (pre .2) (a .number) (pre .0) (pre .1) (c .before .before .before .before .before .before .before .arithmetic-of .ensures ∙ ap arithmeticOf (c .before .before .before .before .before .before .before .before .numbered .ensures)) (c .before .before .before .before .before .before .double-d .ensures .0) (c .before .before .before .before .before .double-n .ensures .0) (c .before .before .before .before .double-m .ensures .0) (c .before .before .before .mark-sum-double .ensures (a .fpscr % 2 ^ 28))))
     (λ c κs. search needs)
-    (λ c. let a = c .before .before .before .before .before .before .before .before .before .args in let pre = c .before .before .before .before .before .before .before .before .before .pre in (scalar-done binary64 (a .op) (now (a .s)) (a .fpscr) _ (pre .2) (a .number) (pre .0) (pre .1) (c .before .before .before .before .before .before .before .arithmetic-of .ensures ∙ ap arithmeticOf (c .before .before .before .before .before .before .before .before .numbered .ensures)) (c .before .before .before .before .before .before .double-d .ensures .0) (c .before .before .before .before .before .double-n .ensures .0) (c .before .before .before .before .double-m .ensures .0) (c .rounded-double .ensures), scalar-marked binary64 (a .op) (a .fpscr) (a .marks) _ (pre .2) (a .number) (pre .0) (pre .1) (c .before .before .before .before .before .before .before .arithmetic-of .ensures ∙ ap arithmeticOf (c .before .before .before .before .before .before .before .before .numbered .ensures)) (c .before .before .before .before .before .before .double-d .ensures .0) (c .before .before .before .before .before .double-n .ensures .0) (c .before .before .before .before .double-m .ensures .0) (c .before .before .before .mark-sum-double .ensures (a .fpscr % 2 ^ 28)))))
+    returns
+    (λ c κs. search needs)
+    returns-2)

@@ -20,14 +20,12 @@ arithmetic-doubles-spec =
     (tie.spec
     Inv-loop
     μ-loop
-    (λ c κs. (omega arith, omega arith, omega arith, c .before .if1 .taken))
-    (λ c. c .unflushed-doubles .ensures)
     (λ c κs. search needs)
     (λ c. omega (arith, reach (c .before .new .ensures)))
     (λ c. reach-none (c .before .new .ensures) (omega arith) (omega arith) (omega arith))
     (λ c κs. search needs)
     (λ c. omega (arith, reach-few (c .before .before .before .loop .inv)))
-    (λ c. reach-end (c .before .before .before .before .loop .inv) (c .before .before .arithmetic-double .ensures) (c .if2 .taken))
+    (λ c. reach-end (c .before .before .before .before .loop .inv) (c .before .before .arithmetic-double .ensures) (c .if1 .taken))
     (λ c κs. d-steps (c .before .before .before .before .loop .inv .here))
     (λ c κs. n-steps (c .before .before .before .before .before .loop .inv .here))
     (λ c κs. m-steps (c .before .before .before .before .before .before .loop .inv .here))

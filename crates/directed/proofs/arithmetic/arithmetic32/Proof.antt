@@ -1,22 +1,18 @@
+-- `directed::arithmetic::arithmetic32` meets its contract. Assumes nothing.
+use mathlib.Core.Path.{ap, _∙_}
+use lib.Ieee.{binary32}
 use Rattle.floats.specs.Flush.{flush}
 use Rattle.directed.specs.Directed.{arithmeticBy}
-use lib.Ieee.{binary32}
-use mathlib.Core.Path.{ap, _∙_}
 use borrow.Author.Needs.{needs}
 use Rattle.directed.proofs.arithmetic.arithmetic32.Statement.{statement}
 use Rattle.directed.proofs.arithmetic.arithmetic32.Tie as tie
-use Rattle.directed.proofs.arithmetic.arithmetic32.Reads as reads
-use Rattle.directed.proofs.arithmetic.arithmetic32.Lts as lts
-
-by-mode32-requires : tie.Need-by-mode32-requires
-by-mode32-requires c κs = search needs
-
-flush32-requires : tie.Need-flush32-requires
-flush32-requires c κs = search needs
 
 returns : tie.Need-returns
+returns c = c .before .quick32 .ensures (c .if1 .taken)
+
+returns-2 : tie.Need-returns-2
 unfolding arithmeticBy
-returns c = c .flush32 .ensures ∙ ap (flush binary32 (c .before .before .args .control)) (c .before .by-mode32 .ensures)
+returns-2 c = c .flush32 .ensures ∙ ap (flush binary32 (c .before .before .before .before .args .control)) (c .before .directed32 .ensures)
 
 pub arithmetic32-spec : {M : Type 1} → statement M
-arithmetic32-spec = tie.close (tie.spec by-mode32-requires flush32-requires returns)
+arithmetic32-spec = tie.close (tie.spec (λ c κs. search needs) returns (λ c κs. search needs) (λ c κs. search needs) returns-2)
