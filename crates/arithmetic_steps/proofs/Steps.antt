@@ -9,8 +9,7 @@ use Rattle.machine.specs.Place.{State, get, put, sWord, lowWord, highWord}
 use Rattle.meaning.specs.Step.{step, fst, snd, rest}
 use Rattle.numbers.specs.declared.arithmetic.Arithmetic.{Arithmetic}
 use Rattle.numbers.specs.Arithmetic.{accumulates}
-use Rattle.floats.specs.Flush.{flush}
-use Rattle.directed.specs.Directed.{appliedBy, arithmeticBy}
+use Rattle.directed.specs.Directed.{arithmeticBy}
 use Rattle.directed.proofs.Control.{without-d}
 use Rattle.short_vectors.specs.Register.{wordsOf, valuesOf, written}
 use Rattle.arithmetic_steps.specs.Arithmetic.{arithmeticStep}
@@ -36,9 +35,3 @@ arithmetic-step f c kind d n m st = by f (accumulates kind) refl
     by binary64 true e = refl
     by binary32 false e = ap (store binary32 st d) (without-d binary32 c kind (fetch binary32 st n) (fetch binary32 st m) 0 (fetch binary32 st d) e)
     by binary64 false e = ap (store binary64 st d) (without-d binary64 c kind (fetch binary64 st n) (fetch binary64 st m) 0 (fetch binary64 st d) e)
-
--- by the result before flushing
-pub rounded-step : (f : Format) (c : ℕ) (kind : Arithmetic) (d n m : ℕ) (st : State)
-    → step (arithmeticStep f c kind d n m) st ≡ store f st d (flush f c (appliedBy f c kind (fetch f st n) (fetch f st m) (fetch f st d)))
-unfolding arithmeticBy
-rounded-step f c kind d n m st = arithmetic-step f c kind d n m st

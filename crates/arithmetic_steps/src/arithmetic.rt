@@ -14,8 +14,6 @@ use directed::arithmetic::quick32;
 use directed::arithmetic::quick64;
 use directed::directed::directed32;
 use directed::directed::directed64;
-use floats::flush::flush32;
-use floats::flush::flush64;
 use machine::registers::Double;
 use machine::registers::Single;
 use machine::registers::get_double;
@@ -61,8 +59,8 @@ pub fn rounded_single(
     let a = get(s, n);
     let b = get(s, m);
     let old = get(s, d);
-    let x = flush32(control, directed32(control, kind, a, b, old));
-    put(s, d, x);
+    let x = directed32(control, kind, a, b, old);
+    put(s, d, x.bits);
 }
 
 // Either way.
@@ -149,8 +147,8 @@ pub fn rounded_double(
     let a = get_double(s, n);
     let b = get_double(s, m);
     let old = get_double(s, d);
-    let x = flush64(control, directed64(control, kind, a, b, old));
-    set_double(s, d, x);
+    let x = directed64(control, kind, a, b, old);
+    set_double(s, d, x.bits);
 }
 
 // Either way.

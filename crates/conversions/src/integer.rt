@@ -19,40 +19,40 @@ pub fn from_integer_single(s: &mut [u32; 32], fpscr: u32, signed: bool, d: Singl
     ensures { λ _. ⌜ SteppedWith (fromStep binary32 signed (d .0) (m .0)) fpscr (now (s .entry)) fpscr (now (s .exit)) ⌝ }
 {
     let x = from_integer32(fpscr % 0x1000_0000, signed, get_single(s, m));
-    set_single(s, d, x);
+    set_single(s, d, x.bits);
 }
 
 pub fn from_integer_double(s: &mut [u32; 32], signed: bool, d: Double, m: Single)
     ensures { λ _. ⌜ Stepped (fromStep binary64 signed (d .0) (m .0)) (now (s .entry)) (now (s .exit)) ⌝ }
 {
     let x = from_integer64(signed, get_single(s, m));
-    set_double(s, d, x);
+    set_double(s, d, x.bits);
 }
 
 pub fn truncate_single(s: &mut [u32; 32], signed: bool, d: Single, m: Single)
     ensures { λ _. ⌜ Stepped (truncateStep binary32 signed (d .0) (m .0)) (now (s .entry)) (now (s .exit)) ⌝ }
 {
     let x = to_integer32(Rounding::Zero, signed, get_single(s, m));
-    set_single(s, d, x);
+    set_single(s, d, x.bits);
 }
 
 pub fn truncate_double(s: &mut [u32; 32], signed: bool, d: Single, m: Double)
     ensures { λ _. ⌜ Stepped (truncateStep binary64 signed (d .0) (m .0)) (now (s .entry)) (now (s .exit)) ⌝ }
 {
     let x = to_integer64(Rounding::Zero, signed, get_double(s, m));
-    set_single(s, d, x);
+    set_single(s, d, x.bits);
 }
 
 pub fn round_single(s: &mut [u32; 32], fpscr: u32, signed: bool, d: Single, m: Single)
     ensures { λ _. ⌜ SteppedWith (roundStep binary32 signed (d .0) (m .0)) fpscr (now (s .entry)) fpscr (now (s .exit)) ⌝ }
 {
     let x = to_integer32(rounding_of(fpscr % 0x1000_0000), signed, get_single(s, m));
-    set_single(s, d, x);
+    set_single(s, d, x.bits);
 }
 
 pub fn round_double(s: &mut [u32; 32], fpscr: u32, signed: bool, d: Single, m: Double)
     ensures { λ _. ⌜ SteppedWith (roundStep binary64 signed (d .0) (m .0)) fpscr (now (s .entry)) fpscr (now (s .exit)) ⌝ }
 {
     let x = to_integer64(rounding_of(fpscr % 0x1000_0000), signed, get_double(s, m));
-    set_single(s, d, x);
+    set_single(s, d, x.bits);
 }

@@ -14,12 +14,12 @@ pub fn widen_single(s: &mut [u32; 32], fpscr: u32, d: Double, m: Single)
     ensures { λ _. ⌜ SteppedWith (widenStep (d .0) (m .0)) fpscr (now (s .entry)) fpscr (now (s .exit)) ⌝ }
 {
     let x = widen(fpscr % 0x1000_0000, get_single(s, m));
-    set_double(s, d, x);
+    set_double(s, d, x.bits);
 }
 
 pub fn narrow_double(s: &mut [u32; 32], fpscr: u32, d: Single, m: Double)
     ensures { λ _. ⌜ SteppedWith (narrowStep (d .0) (m .0)) fpscr (now (s .entry)) fpscr (now (s .exit)) ⌝ }
 {
     let x = narrow(fpscr % 0x1000_0000, get_double(s, m));
-    set_single(s, d, x);
+    set_single(s, d, x.bits);
 }

@@ -1,25 +1,24 @@
 -- The arithmetic and the conversions are correctly rounded: each is `rounded` of its exact result. Assumes nothing.
 use mathlib.Core.Path.{_≡_, refl, sym, ap, _∙_, subst}
-use mathlib.Core.Bool.{Bool, true, false, not, Bool·beq, _&&_, cond}
-use Prim.Native.Nat.{ℕ, _+_, _-_, _*_, _/_, _%_, _^_, _≤_, _<_}
+use mathlib.Core.Bool.{Bool, true, false, not, cond}
+use Prim.Native.Nat.{ℕ, _-_, _*_, _/_, _%_, _^_, _≤_, _<_}
 use native.Mathlib.Nat.{mul-pos}
 use native.Mathlib.Omega.{arith}
-use lib.Dec.{leb, ltb, lit<}
-use borrow.Author.Tests.{ltb-true, ltb-false}
+use lib.Dec.{leb, lit<}
 use lib.Ieee.{Float, nan, inf, fin, Format, binary32, binary64, unlike, round, neg, ofBits, toBits}
 use lib.Ieee.Back.{round-whole}
 use lib.Ieee.Bits.{ofBits-toBits}
 use lib.Ieee.Fits.{round-fits}
 use lib.Ieee.Exact.{HasValue}
 use Rattle.floats.specs.Flush.{flush}
-use Rattle.rounding.specs.Rounding.{roundingOf, rounded, apart}
+use Rattle.rounding.specs.Rounding.{roundingOf, rounded}
 use Rattle.correct_rounding.specs.Rounded.{ratio, CorrectlyRounded}
 use Rattle.rounding.specs.declared.rounding.Rounding.{Rounding}
 use Rattle.rounding.specs.declared.rounding.Rounding.the-variants.{Nearest}
 use Rattle.correct_rounding.proofs.Rounded.{rounded-correct}
 use Rattle.floats.proofs.Flushing.{flush-off}
 use Rattle.packing.proofs.Written.{rounded-nearest}
-use Rattle.operators.specs.Operators.{zeroSign, sumOf, sum, difference, product, quotient}
+use Rattle.operators.specs.Operators.{sumSize, sumSign, sum, difference, product, quotient}
 use Rattle.operators.proofs.Sums.{sum-at}
 use Rattle.operators.proofs.Values.{product-at, quotient-at}
 use Rattle.directed.specs.Directed.{appliedBy, arithmeticBy}
@@ -29,7 +28,7 @@ use Rattle.nans.specs.Nan.{resized}
 use Rattle.nans.proofs.Choosing.{valued-number}
 use Rattle.widths.specs.Convert.{narrowed, narrow, narrowNumber}
 use Rattle.integers.specs.Integer.{integerValue, fromInteger}
-use Rattle.correct_rounding.specs.Operations.{sumSize, sumSign, negative, magnitude, Correct}
+use Rattle.correct_rounding.specs.Operations.{negative, magnitude, Correct}
 use Rattle.numbers.specs.declared.arithmetic.Arithmetic.{Arithmetic}
 use Rattle.widths.proofs.Narrow.{narrowed-value}
 use Rattle.integers.proofs.Laws.{from-integer-exact}
@@ -42,28 +41,9 @@ correct mode f s num den v D e = subst (λ (x : Float). CorrectlyRounded mode f 
 
 -- ---- sums
 
-sum-of : (mode : Rounding) (f : Format) (s t : Bool) (a b c : ℕ) → sumOf mode f s a t b c ≡ rounded mode f (sumSign mode s a t b) (sumSize s a t b) c
-unfolding sumOf
-sum-of mode f s t a b c = go (Bool·beq s t) (ltb a b) (ltb-true a b) (ltb-false a b)
-  where
-    z : Bool
-    z = cond (ltb b a) s (zeroSign mode)
-
-    over : (a b : ℕ) → a < b → b - a ≡ apart a b
-    over a b l = omega arith
-
-    under : (a b : ℕ) → b ≤ a → a - b ≡ apart a b
-    under a b l = omega arith
-
-    go : (e l : Bool) → (l ≡ true → a < b) → (l ≡ false → b ≤ a)
-        → cond e (rounded mode f s (a + b) c) (cond l (rounded mode f t (b - a) c) (rounded mode f z (a - b) c)) ≡ rounded mode f (cond e s (cond l t z)) (cond e (a + b) (apart a b)) c
-    go true l p q = refl
-    go false true p q = ap (λ (x : ℕ). rounded mode f t x c) (over a b (p refl))
-    go false false p q = ap (λ (x : ℕ). rounded mode f z x c) (under a b (q refl))
-
 sums : (mode : Rounding) (f : Format) (x y : Float) (s t : Bool) (a b c : ℕ) → 0 < c → HasValue x s a c → HasValue y t b c
     → CorrectlyRounded mode f (sumSign mode s a t b) (ratio (sumSize s a t b) c) (toBits f (sum mode f x y))
-sums mode f x y s t a b c C h k = correct mode f (sumSign mode s a t b) (sumSize s a t b) c (sum mode f x y) C (sum-at mode f x y s t a b c C h k ∙ sum-of mode f s t a b c)
+sums mode f x y s t a b c C h k = correct mode f (sumSign mode s a t b) (sumSize s a t b) c (sum mode f x y) C (sum-at mode f x y s t a b c C h k)
 
 negated : (y : Float) (t : Bool) (b c : ℕ) → HasValue y t b c → HasValue (neg y) (not t) b c
 unfolding neg

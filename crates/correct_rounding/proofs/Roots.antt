@@ -24,7 +24,7 @@ use Rattle.roots.specs.Root.{isqrt, rootCut, rootOf, sqrtOf, NearRoot}
 use Rattle.correct_rounding.specs.Roots.{Correct}
 use Rattle.roots.proofs.RootFormed.{root-k, root-c, root-word}
 use Rattle.roots.proofs.Squares.{is-root}
-use Rattle.roots.proofs.Laws.{root-number}
+use Rattle.roots.proofs.Laws.{number-root}
 use Rattle.nans.proofs.Choosing.{valued-number}
 use Rattle.roots.proofs.Sight.{root-near}
 
@@ -292,5 +292,5 @@ pub roots-correct : Correct
 roots-correct =
     record {
       roots = roots;
-      square-root = λ f control b a c C A h. subst (CorrectlyRounded (roundingOf control) f false (root a c)) (root-number f control b (valued-number f b false a c h)) (roots (roundingOf control) f (ofBits f b) a c C A h);
+      square-root = λ f control b a c C A h. subst (CorrectlyRounded (roundingOf control) f false (root a c)) (number-root f control b (valued-number f b false a c h)) (roots (roundingOf control) f (ofBits f b) a c C A h);
     }

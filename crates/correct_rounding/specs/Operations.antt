@@ -1,26 +1,19 @@
 -- What the arithmetic and the conversions come to in IEEE 754's terms: each result's word is the exact result, correctly rounded. Assumes nothing.
-use Prim.Native.Nat.{ℕ, _+_, _-_, _*_, _/_, _%_, _^_, _<_}
+use Prim.Native.Nat.{ℕ, _-_, _*_, _/_, _%_, _^_, _<_}
 use mathlib.Core.Path.{_≡_}
-use mathlib.Core.Bool.{Bool, not, Bool·beq, _&&_, cond}
-use lib.Dec.{leb, ltb}
+use mathlib.Core.Bool.{Bool, not, _&&_, cond}
+use lib.Dec.{leb}
 use lib.Ieee.{Float, Format, binary32, binary64, top, unlike, ofBits, toBits}
 use lib.Ieee.Exact.{HasValue}
-use Rattle.rounding.specs.Rounding.{roundingOf, cutTo, Names, apart}
+use Rattle.rounding.specs.Rounding.{roundingOf, cutTo, Names}
 use Rattle.correct_rounding.specs.Rounded.{ratio, CorrectlyRounded}
 use Rattle.rounding.specs.declared.rounding.Rounding.{Rounding}
-use Rattle.operators.specs.Operators.{zeroSign, sum, difference, product, quotient}
+use Rattle.operators.specs.Operators.{sumSize, sumSign, sum, difference, product, quotient}
 use Rattle.directed.specs.Directed.{applyBy, appliedBy, arithmeticBy}
 use Rattle.nans.specs.Nan.{defaultNan}
 use Rattle.widths.specs.Convert.{narrowed, narrow, widen}
 use Rattle.integers.specs.Integer.{fromInteger, clamped, toInteger}
 use Rattle.numbers.specs.declared.arithmetic.Arithmetic.{Arithmetic}
-
--- ±a + ±b: its size, and its sign. An exact zero of unlike signs has the sign that the mode gives it: + but downwards, where it is -.
-abbrev pub sumSize : Bool → ℕ → Bool → ℕ → ℕ
-sumSize s a t b = cond (Bool·beq s t) (a + b) (apart a b)
-
-abbrev pub sumSign : Rounding → Bool → ℕ → Bool → ℕ → Bool
-sumSign mode s a t b = cond (Bool·beq s t) s (cond (ltb a b) t (cond (ltb b a) s (zeroSign mode)))
 
 -- the integer that a word is, signed or not
 abbrev pub negative : Bool → ℕ → Bool

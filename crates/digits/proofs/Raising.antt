@@ -2,15 +2,14 @@
 use mathlib.Core.Path.{_≡_, refl, sym, ap, _∙_, subst}
 use mathlib.Core.Bool.{Bool, true, false}
 use Prim.Native.Nat.{ℕ, zero, suc, _+_, _-_, _*_, _%_, _^_, _≤_, _<_}
-use native.Mathlib.Nat.{le-trans, le-of-eq, lt-of-lt-of-le, lt-of-le-of-lt, mul-le-mul-right, mod-eq-of-lt, mul-assoc, not-le-of-lt, lt-of-not-le, le-of-suc-le-suc}
+use native.Mathlib.Nat.{le-trans, le-of-eq, lt-of-lt-of-le, lt-of-le-of-lt, mul-le-mul-right, mod-eq-of-lt, mul-assoc, not-le-of-lt, lt-of-not-le}
 use native.Mathlib.Decide.{decLe}
 use native.Mathlib.Omega.{arith}
 use lib.Count.{leadingZeros, leading-top}
 use lib.Dec.{lit≤}
 use lib.Pow.{pow-add, pow-pos, pow-mono, shl-lt}
-use lib.Ieee.{Float, Format, unlike, toBits}
+use lib.Ieee.{Format, unlike}
 use Rattle.digits.specs.Digits.{sticky, IsRaised}
-use Rattle.rounding.specs.Rounding.{rounded}
 use Rattle.packing.specs.Pack.{IsSettled}
 use Rattle.rounding.specs.declared.rounding.Rounding.{Rounding}
 use Rattle.packing.proofs.Settle.{settled-same}
@@ -63,11 +62,6 @@ raised-is mode f s m e r bits x o t p h q =
   where
     back : (e r : ℕ) → r ≤ e → r + (e - r) ≡ e
     back e r h = omega arith
-
--- the word of what the digits stand for
-pub settled-is : (mode : Rounding) (f : Format) (n s : Bool) (v : Float) (m e bits : ℕ) (x o t : Bool) → IsSettled mode f n (m * 2 ^ e) (2 ^ 2209) bits x o t → n ≡ s
-    → rounded mode f s (m * 2 ^ e) (2 ^ 2209) ≡ v → bits ≡ toBits f v
-settled-is mode f n s v m e bits x o t p h k = p .bits-are ∙ ap (λ (z : Bool). toBits f (rounded mode f z (m * 2 ^ e) (2 ^ 2209))) h ∙ ap (toBits f) k
 
 -- ---- the sticky digit, and the sign
 

@@ -20,7 +20,6 @@ use Rattle.digits.specs.Digits.{sticky, IsFolded}
 use Rattle.floats.proofs.Units.{Lead, drop-is}
 use Rattle.rounding.proofs.Cutting.{cut-same, rest-same}
 use Rattle.rounding.proofs.Order.{Cmp, cmp, compare-is, compare-scale}
-use Rattle.packing.proofs.Written.{rounded-same}
 use Rattle.packing.proofs.Formed.{lead-digit}
 use Rattle.packing.proofs.Settle.{settled-same}
 
@@ -370,16 +369,7 @@ module _ (mode : Rounding) (f : Format) (s : Bool) (n x v m e : ℕ) (h : prec f
       twice : (a v e d : ℕ) → (a * v + 0) * (2 * e) * d ≡ (a * 2 + 0) * e * (v * d)
       twice a v e d = omega arith
 
-  pub folded-rounds : rounded mode f s (x * 2 ^ suc e) (v * 2 ^ 2209) ≡ rounded mode f s (m * 2 ^ e) (2 ^ 2209)
-  folded-rounds = ap (λ (z : ℕ). rounded mode f s (z * 2 ^ suc e) (v * 2 ^ 2209)) (sym (p .sum)) ∙ go (p .enough)
-    where
-      go : (2 ^ n ≤ top) ⊎ (rest ≡ 0) → rounded mode f s ((top * v + rest) * 2 ^ suc e) (v * 2 ^ 2209) ≡ rounded mode f s (m * 2 ^ e) (2 ^ 2209)
-      go (inl l) =
-          rounded-sticky mode f s top v rest (suc e) 2209 (p .small) (enough l)
-          ∙ rounded-same mode f s ((top * 2 + sticky rest) * 2 ^ suc e) (2 * 2 ^ 2209) (m * 2 ^ e) (2 ^ 2209) two (pow-pos 2209) same
-      go (inr z) = rounded-same mode f s ((top * v + rest) * 2 ^ suc e) (v * 2 ^ 2209) (m * 2 ^ e) (2 ^ 2209) (mul-pos some-divisor (pow-pos 2209)) (pow-pos 2209) (same-exact z)
-
-  -- and what else is told of it: whether it is exact, too large or tiny
+  -- what rounding tells of the digits, it tells of what they stand for
   pub folded-settles : (bits : ℕ) (i o t : Bool) → IsSettled mode f s (m * 2 ^ e) (2 ^ 2209) bits i o t → IsSettled mode f s (x * 2 ^ suc e) (v * 2 ^ 2209) bits i o t
   folded-settles bits i o t q = subst (λ (z : ℕ). IsSettled mode f s (z * 2 ^ suc e) (v * 2 ^ 2209) bits i o t) (p .sum) (go (p .enough))
     where

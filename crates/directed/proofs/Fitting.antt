@@ -1,17 +1,17 @@
 -- What an operator gives is a value of its format, so that its word is read back as it was. Over the mode and the format. Assumes nothing.
 use mathlib.Core.Path.{subst}
 use mathlib.Core.Bool.{Bool, true, false, cond, Bool·beq}
-use Prim.Native.Nat.{ℕ, suc, _+_, _-_, _*_, _/_, _^_, _≤_, _<_}
+use Prim.Native.Nat.{ℕ, suc, _-_, _*_, _/_, _^_, _≤_, _<_}
 use native.Mathlib.Nat.{le-trans, lt-of-le-of-lt, le-of-lt, div-div-eq-div-mul}
 use native.Mathlib.Omega.{arith}
 use lib.Dec.{T, ltb, ltb→lt, lit<, eqb}
-use lib.Pow.{pow-pos, pow-lt}
-use lib.Ieee.{Float, nan, inf, fin, Format, binary32, binary64, prec, emax, low, odd, up, down, unlike, fits}
+use lib.Pow.{pow-lt}
+use lib.Ieee.{Float, nan, inf, fin, Format, binary32, binary64, prec, low, odd, up, down, unlike, fits}
 use lib.Ieee.Fits.{odd-fits, kept-lt, cond-fits, nan-fits, inf-fits}
 use Rattle.rounding.specs.Rounding.{cutTo, largest, beyond, limit, settled, dropped, rounded}
 use Rattle.rounding.specs.declared.rounding.Rounding.{Rounding}
 use Rattle.rounding.specs.declared.rounding.Rounding.the-variants.{Nearest, Up, Down, Zero}
-use Rattle.operators.specs.Operators.{zeroSign, sumOf, sum, product, quotient}
+use Rattle.operators.specs.Operators.{sumSize, sumSign, sum, product, quotient}
 use Rattle.rounding.proofs.Cutting.{move-le}
 
 largest-fits : (f : Format) (s : Bool) → T (fits f (largest f s))
@@ -54,12 +54,6 @@ product-fits mode f (fin s m e) nan = nan-fits f
 product-fits mode f (fin s m e) (inf t) = cond-fits f (eqb m 0) nan (inf (unlike s t)) (nan-fits f) (inf-fits f (unlike s t))
 product-fits mode f (fin s m e) (fin t n d) = rounded-fits mode f (unlike s t) (m * up e * (n * up d)) (down e * down d)
 
-sum-of-fits : (mode : Rounding) (f : Format) (s : Bool) (a : ℕ) (t : Bool) (b c : ℕ) → T (fits f (sumOf mode f s a t b c))
-unfolding sumOf
-sum-of-fits mode f s a t b c =
-    cond-fits f (Bool·beq s t) _ _ (rounded-fits mode f s (a + b) c)
-    (cond-fits f (ltb a b) _ _ (rounded-fits mode f t (b - a) c) (rounded-fits mode f (cond (ltb b a) s (zeroSign mode)) (a - b) c))
-
 pub sum-fits : (mode : Rounding) (f : Format) (x y : Float) → T (fits f (sum mode f x y))
 unfolding sum
 sum-fits mode f nan y = nan-fits f
@@ -68,7 +62,8 @@ sum-fits mode f (inf s) (inf t) = cond-fits f (Bool·beq s t) (inf s) nan (inf-f
 sum-fits mode f (inf s) (fin t n d) = inf-fits f s
 sum-fits mode f (fin s m e) nan = nan-fits f
 sum-fits mode f (fin s m e) (inf t) = inf-fits f t
-sum-fits mode f (fin s m e) (fin t n d) = sum-of-fits mode f s (m * up e * down d) t (n * up d * down e) (down e * down d)
+sum-fits mode f (fin s m e) (fin t n d) =
+    rounded-fits mode f (sumSign mode s (m * up e * down d) t (n * up d * down e)) (sumSize s (m * up e * down d) t (n * up d * down e)) (down e * down d)
 
 pub quotient-fits : (mode : Rounding) (f : Format) (x y : Float) → T (fits f (quotient mode f x y))
 unfolding quotient fits

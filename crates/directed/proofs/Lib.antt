@@ -2,5 +2,6 @@
 pub mod Negation
 pub mod Fitting
 pub mod Values
+pub mod Composing
 pub mod Nearest
 pub mod Control

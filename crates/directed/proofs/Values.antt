@@ -1,16 +1,15 @@
 -- Values of words: an operator's result and the nine kinds', whatever NaNs come out. Over the mode and the format. Assumes nothing.
 use mathlib.Core.Path.{_≡_, refl, sym, ap, _∙_, subst}
-use mathlib.Core.Bool.{Bool, true, false, not, _||_, cond}
+use mathlib.Core.Bool.{Bool, true, false, not, _||_}
 use Prim.Native.Nat.{ℕ, _+_, _*_, _%_, _<_}
 use native.Mathlib.Omega.{arith}
 use lib.Dec.{T}
 use lib.Ieee.{Float, nan, inf, fin, Format, binary32, binary64, top, neg, fits, isNan, ofBits, toBits, nanBits}
-use lib.Ieee.Bits.{nanBits-is, ofBits-toBits, toBits-ofBits, toBits-lt}
-use lib.Ieee.Fits.{neg-fits}
+use lib.Ieee.Bits.{ofBits-toBits, toBits-ofBits, toBits-lt}
 use Rattle.floats.proofs.Patterns.{reads-nan}
 use Rattle.rounding.specs.Rounding.{roundingOf}
 use Rattle.rounding.specs.declared.rounding.Rounding.{Rounding}
-use Rattle.operators.specs.Operators.{sum, difference, product, quotient, onWords}
+use Rattle.operators.specs.Operators.{sum, difference, product, quotient}
 use Rattle.nans.specs.Nan.{defaultNan, operated, nanOf, negation}
 use Rattle.nans.proofs.Choosing.{nan-of-nan, nan-word, negation-nan, nan-pattern, numbers-operated, nans-operated, number-negated}
 use Rattle.numbers.specs.declared.arithmetic.Arithmetic.{Arithmetic}
@@ -18,10 +17,6 @@ use Rattle.numbers.specs.declared.arithmetic.Arithmetic.the-variants.{MultiplyA
 use Rattle.directed.specs.Directed.{applyBy, operatedBy, appliedBy}
 use Rattle.directed.proofs.Fitting.{sum-fits, product-fits, quotient-fits}
 use Rattle.directed.proofs.Negation.{neg-word}
-
-pub difference-by : (mode : Rounding) (f : Format) (a b c r : ℕ) → r ≡ onWords f (sum mode f) a c → ofBits f c ≡ neg (ofBits f b) → r ≡ onWords f (difference mode f) a b
-unfolding difference
-difference-by mode f a b c r e p = e ∙ ap (λ (v : Float). toBits f (sum mode f (ofBits f a) v)) p
 
 -- ---- a NaN operand makes a NaN
 

@@ -1,2 +1,3 @@
--- The crate's definitions: the arithmetic of one step by a rounding mode. Assumes nothing.
+-- The crate's definitions: the arithmetic of one step by a rounding mode, and what it raises. Assumes nothing.
 pub mod Directed
+pub mod Exceptions

@@ -8,8 +8,6 @@ ghost use lib.Ieee.{binary32, binary64};
 ghost use Rattle.directed.specs.Directed.{arithmeticBy};
 use super::directed::directed32;
 use super::directed::directed64;
-use floats::flush::flush32;
-use floats::flush::flush64;
 use numbers::arithmetic::Arithmetic;
 use numbers::arithmetic::Quick32;
 use numbers::arithmetic::Quick64;
@@ -42,7 +40,8 @@ pub fn arithmetic32(control: u32, kind: Arithmetic, n: u32, m: u32, d: u32) -> u
     if x.taken {
         return x.bits;
     }
-    flush32(control, directed32(control, kind, n, m, d))
+    let y = directed32(control, kind, n, m, d);
+    y.bits
 }
 
 pub fn quick64(control: u32, kind: Arithmetic, n: u64, m: u64, d: u64) -> Quick64
@@ -61,5 +60,6 @@ pub fn arithmetic64(control: u32, kind: Arithmetic, n: u64, m: u64, d: u64) -> u
     if x.taken {
         return x.bits;
     }
-    flush64(control, directed64(control, kind, n, m, d))
+    let y = directed64(control, kind, n, m, d);
+    y.bits
 }

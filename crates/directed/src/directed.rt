@@ -1,11 +1,23 @@
-// The arithmetic of one step by integer work: document 01's nine kinds over sums, products and quotients of words, each rounded by FPSCR 23:22 and with
-// request 2026-12's NaNs.
+// The arithmetic of one step by integer work: document 01's nine kinds over sums, products and quotients of words, each rounded by FPSCR 23:22, with
+// request 2026-12's NaNs and request 2026-07's exceptions.
 ghost use mathlib.Core.Path.{_≡_};
 ghost use lib.Ieee.{binary32, binary64};
+ghost use Rattle.nans.specs.Nan.{nanOf, negation};
+ghost use Rattle.exceptions.specs.Exceptions.{nanExceptions};
 ghost use Rattle.operators.specs.Operators.{sum, difference, product, quotient};
-ghost use Rattle.directed.specs.Directed.{operatedBy, appliedBy};
+ghost use Rattle.exceptions.specs.Operators.{sumExceptions, differenceExceptions, productExceptions, quotientExceptions};
+ghost use Rattle.directed.specs.Directed.{arithmeticBy};
+ghost use Rattle.directed.specs.Exceptions.{exceptionsBy, IsOperated, IsAccumulated, IsComposed};
 use super::negate::negate32;
 use super::negate::negate64;
+use exceptions::exceptions::Raised32;
+use exceptions::exceptions::Raised64;
+use exceptions::exceptions::flushed_exceptions32;
+use exceptions::exceptions::flushed_exceptions64;
+use exceptions::exceptions::nan_exceptions32;
+use exceptions::exceptions::nan_exceptions64;
+use floats::flush::flush32;
+use floats::flush::flush64;
 use floats::word::is_nan32;
 use floats::word::is_nan64;
 use nans::nan::nan_of32;
@@ -21,132 +33,245 @@ use rounding::rounding::rounding_of;
 use sums::sum::sum32;
 use sums::sum::sum64;
 
-fn added32(control: u32, a: u32, b: u32) -> u32
-    ensures { λ r. ⌜ r ≡ operatedBy sum binary32 control a b ⌝ }
+// A result before flushing, what an accumulate's product raised before it, and what the last operation raised.
+struct Composed32 {
+    pub bits: u32,
+    pub first: u32,
+    pub last: u32,
+}
+
+struct Composed64 {
+    pub bits: u64,
+    pub first: u32,
+    pub last: u32,
+}
+
+fn nan32(control: u32, a: u32, b: u32) -> Raised32
+    ensures { λ r. ⌜ (r .bits ≡ nanOf binary32 control a b) × (r .exceptions ≡ nanExceptions binary32 a b) ⌝ }
+{
+    Raised32 {
+        bits: nan_of32(control, a, b),
+        exceptions: nan_exceptions32(a, b),
+    }
+}
+
+fn added32(control: u32, a: u32, b: u32) -> Raised32
+    ensures { λ r. ⌜ IsOperated sum sumExceptions binary32 control a b (r .bits) (r .exceptions) ⌝ }
 {
     if is_nan32(a) | is_nan32(b) {
-        return nan_of32(control, a, b);
+        return nan32(control, a, b);
     }
     sum32(rounding_of(control), a, b)
 }
 
-fn subtracted32(control: u32, a: u32, less: u32) -> u32
-    ensures { λ r. ⌜ r ≡ operatedBy difference binary32 control a less ⌝ }
+fn subtracted32(control: u32, a: u32, less: u32) -> Raised32
+    ensures { λ r. ⌜ IsOperated difference differenceExceptions binary32 control a less (r .bits) (r .exceptions) ⌝ }
 {
     if is_nan32(a) | is_nan32(less) {
-        return nan_of32(control, a, less);
+        return nan32(control, a, less);
     }
     sum32(rounding_of(control), a, negate32(less))
 }
 
-fn multiplied32(control: u32, a: u32, b: u32) -> u32
-    ensures { λ r. ⌜ r ≡ operatedBy product binary32 control a b ⌝ }
+fn multiplied32(control: u32, a: u32, b: u32) -> Raised32
+    ensures { λ r. ⌜ IsOperated product productExceptions binary32 control a b (r .bits) (r .exceptions) ⌝ }
 {
     if is_nan32(a) | is_nan32(b) {
-        return nan_of32(control, a, b);
+        return nan32(control, a, b);
     }
     product32(rounding_of(control), a, b)
 }
 
-fn divided32(control: u32, a: u32, b: u32) -> u32
-    ensures { λ r. ⌜ r ≡ operatedBy quotient binary32 control a b ⌝ }
+fn divided32(control: u32, a: u32, b: u32) -> Raised32
+    ensures { λ r. ⌜ IsOperated quotient quotientExceptions binary32 control a b (r .bits) (r .exceptions) ⌝ }
 {
     if is_nan32(a) | is_nan32(b) {
-        return nan_of32(control, a, b);
+        return nan32(control, a, b);
     }
     quotient32(rounding_of(control), a, b)
 }
 
-fn added64(control: u32, a: u64, b: u64) -> u64
-    ensures { λ r. ⌜ r ≡ operatedBy sum binary64 control a b ⌝ }
+// A negation raises nothing of its own.
+fn negated32(control: u32, r: Raised32) -> Raised32
+    ensures { λ s. ⌜ (s .bits ≡ negation binary32 control (r .bits)) × (s .exceptions ≡ r .exceptions) ⌝ }
 {
-    if is_nan64(a) | is_nan64(b) {
-        return nan_of64(control, a, b);
+    Raised32 {
+        bits: negation32(control, r.bits),
+        exceptions: r.exceptions,
     }
-    sum64(rounding_of(control), a, b)
 }
 
-fn subtracted64(control: u32, a: u64, less: u64) -> u64
-    ensures { λ r. ⌜ r ≡ operatedBy difference binary64 control a less ⌝ }
+fn accumulated32(control: u32, d: u32, p: Raised32) -> Composed32
+    ensures { λ r. ⌜ IsAccumulated binary32 control d (p .bits) (p .exceptions) (r .bits) (r .first) (r .last) ⌝ }
 {
-    if is_nan64(a) | is_nan64(less) {
-        return nan_of64(control, a, less);
+    let s = added32(control, d, p.bits);
+    Composed32 {
+        bits: s.bits,
+        first: p.exceptions,
+        last: s.exceptions,
     }
-    sum64(rounding_of(control), a, negate64(less))
 }
 
-fn multiplied64(control: u32, a: u64, b: u64) -> u64
-    ensures { λ r. ⌜ r ≡ operatedBy product binary64 control a b ⌝ }
+fn alone32(r: Raised32) -> Composed32
+    ensures { λ s. ⌜ (s .bits ≡ r .bits) × (s .first ≡ 0) × (s .last ≡ r .exceptions) ⌝ }
 {
-    if is_nan64(a) | is_nan64(b) {
-        return nan_of64(control, a, b);
+    Composed32 {
+        bits: r.bits,
+        first: 0,
+        last: r.exceptions,
     }
-    product64(rounding_of(control), a, b)
 }
 
-fn divided64(control: u32, a: u64, b: u64) -> u64
-    ensures { λ r. ⌜ r ≡ operatedBy quotient binary64 control a b ⌝ }
-{
-    if is_nan64(a) | is_nan64(b) {
-        return nan_of64(control, a, b);
-    }
-    quotient64(rounding_of(control), a, b)
-}
-
-// The result before flushing.
-pub fn directed32(control: u32, kind: Arithmetic, n: u32, m: u32, d: u32) -> u32
-    ensures { λ r. ⌜ r ≡ appliedBy binary32 control kind n m d ⌝ }
+fn compose32(control: u32, kind: Arithmetic, n: u32, m: u32, d: u32) -> Composed32
+    ensures { λ r. ⌜ IsComposed binary32 control kind n m d (r .bits) (r .first) (r .last) ⌝ }
 {
     match kind {
-        Arithmetic::MultiplyAccumulate => added32(control, d, multiplied32(control, n, m)), // FMACS
-        Arithmetic::MultiplySubtract => added32(
+        Arithmetic::MultiplyAccumulate => accumulated32(control, d, multiplied32(control, n, m)), // FMACS
+        Arithmetic::MultiplySubtract => accumulated32(
             control,
             d,
-            negation32(control, multiplied32(control, n, m)),
+            negated32(control, multiplied32(control, n, m)),
         ), // FNMACS
-        Arithmetic::NegateMultiplySubtract => added32(
+        Arithmetic::NegateMultiplySubtract => accumulated32(
             control,
             negation32(control, d),
             multiplied32(control, n, m),
         ), // FMSCS
-        Arithmetic::NegateMultiplyAccumulate => added32(
+        Arithmetic::NegateMultiplyAccumulate => accumulated32(
             control,
             negation32(control, d),
-            negation32(control, multiplied32(control, n, m)),
+            negated32(control, multiplied32(control, n, m)),
         ), // FNMSCS
-        Arithmetic::Multiply => multiplied32(control, n, m), // FMULS
-        Arithmetic::NegateMultiply => negation32(control, multiplied32(control, n, m)), // FNMULS
-        Arithmetic::Add => added32(control, n, m), // FADDS
-        Arithmetic::Subtract => subtracted32(control, n, m), // FSUBS
-        Arithmetic::Divide => divided32(control, n, m), // FDIVS
+        Arithmetic::Multiply => alone32(multiplied32(control, n, m)), // FMULS
+        Arithmetic::NegateMultiply => alone32(negated32(control, multiplied32(control, n, m))), // FNMULS
+        Arithmetic::Add => alone32(added32(control, n, m)), // FADDS
+        Arithmetic::Subtract => alone32(subtracted32(control, n, m)), // FSUBS
+        Arithmetic::Divide => alone32(divided32(control, n, m)), // FDIVS
     }
 }
 
-// The result before flushing.
-pub fn directed64(control: u32, kind: Arithmetic, n: u64, m: u64, d: u64) -> u64
-    ensures { λ r. ⌜ r ≡ appliedBy binary64 control kind n m d ⌝ }
+// The result as it is stored, and what the step raises.
+pub fn directed32(control: u32, kind: Arithmetic, n: u32, m: u32, d: u32) -> Raised32
+    ensures { λ r. ⌜ (r .bits ≡ arithmeticBy binary32 control kind n m d) × (r .exceptions ≡ exceptionsBy binary32 control kind n m d) ⌝ }
+{
+    let x = compose32(control, kind, n, m, d);
+    Raised32 {
+        bits: flush32(control, x.bits),
+        exceptions: x.first | flushed_exceptions32(control, x.bits, x.last),
+    }
+}
+
+fn nan64(control: u32, a: u64, b: u64) -> Raised64
+    ensures { λ r. ⌜ (r .bits ≡ nanOf binary64 control a b) × (r .exceptions ≡ nanExceptions binary64 a b) ⌝ }
+{
+    Raised64 {
+        bits: nan_of64(control, a, b),
+        exceptions: nan_exceptions64(a, b),
+    }
+}
+
+fn added64(control: u32, a: u64, b: u64) -> Raised64
+    ensures { λ r. ⌜ IsOperated sum sumExceptions binary64 control a b (r .bits) (r .exceptions) ⌝ }
+{
+    if is_nan64(a) | is_nan64(b) {
+        return nan64(control, a, b);
+    }
+    sum64(rounding_of(control), a, b)
+}
+
+fn subtracted64(control: u32, a: u64, less: u64) -> Raised64
+    ensures { λ r. ⌜ IsOperated difference differenceExceptions binary64 control a less (r .bits) (r .exceptions) ⌝ }
+{
+    if is_nan64(a) | is_nan64(less) {
+        return nan64(control, a, less);
+    }
+    sum64(rounding_of(control), a, negate64(less))
+}
+
+fn multiplied64(control: u32, a: u64, b: u64) -> Raised64
+    ensures { λ r. ⌜ IsOperated product productExceptions binary64 control a b (r .bits) (r .exceptions) ⌝ }
+{
+    if is_nan64(a) | is_nan64(b) {
+        return nan64(control, a, b);
+    }
+    product64(rounding_of(control), a, b)
+}
+
+fn divided64(control: u32, a: u64, b: u64) -> Raised64
+    ensures { λ r. ⌜ IsOperated quotient quotientExceptions binary64 control a b (r .bits) (r .exceptions) ⌝ }
+{
+    if is_nan64(a) | is_nan64(b) {
+        return nan64(control, a, b);
+    }
+    quotient64(rounding_of(control), a, b)
+}
+
+// A negation raises nothing of its own.
+fn negated64(control: u32, r: Raised64) -> Raised64
+    ensures { λ s. ⌜ (s .bits ≡ negation binary64 control (r .bits)) × (s .exceptions ≡ r .exceptions) ⌝ }
+{
+    Raised64 {
+        bits: negation64(control, r.bits),
+        exceptions: r.exceptions,
+    }
+}
+
+fn accumulated64(control: u32, d: u64, p: Raised64) -> Composed64
+    ensures { λ r. ⌜ IsAccumulated binary64 control d (p .bits) (p .exceptions) (r .bits) (r .first) (r .last) ⌝ }
+{
+    let s = added64(control, d, p.bits);
+    Composed64 {
+        bits: s.bits,
+        first: p.exceptions,
+        last: s.exceptions,
+    }
+}
+
+fn alone64(r: Raised64) -> Composed64
+    ensures { λ s. ⌜ (s .bits ≡ r .bits) × (s .first ≡ 0) × (s .last ≡ r .exceptions) ⌝ }
+{
+    Composed64 {
+        bits: r.bits,
+        first: 0,
+        last: r.exceptions,
+    }
+}
+
+fn compose64(control: u32, kind: Arithmetic, n: u64, m: u64, d: u64) -> Composed64
+    ensures { λ r. ⌜ IsComposed binary64 control kind n m d (r .bits) (r .first) (r .last) ⌝ }
 {
     match kind {
-        Arithmetic::MultiplyAccumulate => added64(control, d, multiplied64(control, n, m)), // FMACD
-        Arithmetic::MultiplySubtract => added64(
+        Arithmetic::MultiplyAccumulate => accumulated64(control, d, multiplied64(control, n, m)), // FMACD
+        Arithmetic::MultiplySubtract => accumulated64(
             control,
             d,
-            negation64(control, multiplied64(control, n, m)),
+            negated64(control, multiplied64(control, n, m)),
         ), // FNMACD
-        Arithmetic::NegateMultiplySubtract => added64(
+        Arithmetic::NegateMultiplySubtract => accumulated64(
             control,
             negation64(control, d),
             multiplied64(control, n, m),
         ), // FMSCD
-        Arithmetic::NegateMultiplyAccumulate => added64(
+        Arithmetic::NegateMultiplyAccumulate => accumulated64(
             control,
             negation64(control, d),
-            negation64(control, multiplied64(control, n, m)),
+            negated64(control, multiplied64(control, n, m)),
         ), // FNMSCD
-        Arithmetic::Multiply => multiplied64(control, n, m), // FMULD
-        Arithmetic::NegateMultiply => negation64(control, multiplied64(control, n, m)), // FNMULD
-        Arithmetic::Add => added64(control, n, m), // FADDD
-        Arithmetic::Subtract => subtracted64(control, n, m), // FSUBD
-        Arithmetic::Divide => divided64(control, n, m), // FDIVD
+        Arithmetic::Multiply => alone64(multiplied64(control, n, m)), // FMULD
+        Arithmetic::NegateMultiply => alone64(negated64(control, multiplied64(control, n, m))), // FNMULD
+        Arithmetic::Add => alone64(added64(control, n, m)), // FADDD
+        Arithmetic::Subtract => alone64(subtracted64(control, n, m)), // FSUBD
+        Arithmetic::Divide => alone64(divided64(control, n, m)), // FDIVD
+    }
+}
+
+// The result as it is stored, and what the step raises.
+pub fn directed64(control: u32, kind: Arithmetic, n: u64, m: u64, d: u64) -> Raised64
+    ensures { λ r. ⌜ (r .bits ≡ arithmeticBy binary64 control kind n m d) × (r .exceptions ≡ exceptionsBy binary64 control kind n m d) ⌝ }
+{
+    let x = compose64(control, kind, n, m, d);
+    Raised64 {
+        bits: flush64(control, x.bits),
+        exceptions: x.first | flushed_exceptions64(control, x.bits, x.last),
     }
 }

@@ -12,10 +12,11 @@ use lib.Ieee.{Float, nan, inf, fin, Format, binary32, binary64, up, down, hid, o
 use lib.Ieee.Fits.{down-pos, fits-widens}
 use lib.Ieee.Bits.{ofBits-toBits, ofBits-fits}
 use lib.Ieee.Exact.{HasValue}
-use borrow.Author.Tests.{le-leb, lt-leb, le-ltb}
-use Rattle.rounding.specs.Rounding.{cutTo, rounded, IsCut}
+use borrow.Author.Tests.{le-leb, lt-leb, le-ltb, lt-ltb}
+use Rattle.rounding.specs.Rounding.{cutTo, rounded, exact, IsCut}
 use Rattle.packing.specs.Pack.{ceiling, packed, IsSettled}
-use Rattle.integers.specs.Integer.{fromInteger, clamped, integerOf, toInteger}
+use Rattle.exceptions.specs.Exceptions.{invalid, inexact}
+use Rattle.integers.specs.Integer.{fromInteger, clamped, integerOf, toInteger, fromIntegerExceptions, outside, clampedExceptions, integerExceptions, toIntegerExceptions}
 use Rattle.widths.specs.Convert.{widenNumber, widen}
 use Rattle.nans.specs.Nan.{resized}
 use Rattle.nans.proofs.Choosing.{nan-word, resized-nan}
@@ -24,7 +25,7 @@ use Rattle.rounding.specs.declared.rounding.Rounding.{Rounding}
 use Rattle.rounding.specs.declared.rounding.Rounding.the-variants.{Nearest}
 use Rattle.floats.proofs.Units.{Lead, slide, reads-low, reads-normal, reads-inf}
 use Rattle.floats.proofs.Patterns.{nan-of-fields, reads-nan}
-use Rattle.rounding.proofs.Cutting.{move-ge, cut-le, cut-same, cut-far, cut-exact}
+use Rattle.rounding.proofs.Cutting.{move-ge, cut-le, cut-same, rest-same, cut-far, rest-far, cut-exact}
 use Rattle.packing.proofs.Written.{ceiling-ge, rounded-bits, exact-is, over-is, tiny-is}
 use Rattle.packing.proofs.Settle.{settled-same}
 use Rattle.rounding.proofs.Lifting.{moved-is, lifted}
@@ -116,8 +117,9 @@ double-at mode s n k m e h l g =
     low : (k m : ℕ) → k ≤ 1074 → m < 2 ^ 53 → k * hid binary64 + m ≤ ones binary64 * hid binary64 - 1
     low k m g h = omega arith
 
-pub double-any : (mode : Rounding) (s : Bool) (n : ℕ) → n < 2 ^ 53 → toBits binary64 (rounded Nearest binary64 s n 1) ≡ toBits binary64 (rounded mode binary64 s n 1)
-double-any mode s n h = elim (eq-zero-or-pos n) [
+-- every whole number of 53 digits has that form
+doubled : (P : Type 0) (n : ℕ) → n < 2 ^ 53 → ((k m : ℕ) → n * 2 ^ 1074 * 1 ≡ m * (1 * 2 ^ k) → m < 2 ^ 53 → Lead binary64 k m → k ≤ 1074 → P) → P
+doubled P n h same = elim (eq-zero-or-pos n) [
   | inl z ↦ same 0 0 (ap (λ (x : ℕ). x * 2 ^ 1074 * 1) z) (lit< tt) (inl refl) (lit≤ tt)
   | inr p ↦
       let r = leadingZeros 64 n - 11 in
@@ -125,15 +127,19 @@ double-any mode s n h = elim (eq-zero-or-pos n) [
       same (1074 - r) (n * 2 ^ r) (slide n 1074 0 r (1074 - r) (exps r (l .most)) ∙ ap (λ (z : ℕ). n * 2 ^ r * z) (sym (one-mul (2 ^ (1074 - r))))) (l .below) (inr (l .least)) (most r)
 ]
   where
-    same : (k m : ℕ) → n * 2 ^ 1074 * 1 ≡ m * (1 * 2 ^ k) → m < 2 ^ 53 → Lead binary64 k m → k ≤ 1074
-        → toBits binary64 (rounded Nearest binary64 s n 1) ≡ toBits binary64 (rounded mode binary64 s n 1)
-    same k m e u l g = double-at Nearest s n k m e u l g ∙ sym (double-at mode s n k m e u l g)
-
     exps : (r : ℕ) → r ≤ 52 → 1074 + 0 ≡ r + (1074 - r)
     exps r h = omega arith
 
     most : (r : ℕ) → 1074 - r ≤ 1074
     most r = omega arith
+
+pub double-any : (mode : Rounding) (s : Bool) (n : ℕ) → n < 2 ^ 53 → toBits binary64 (rounded Nearest binary64 s n 1) ≡ toBits binary64 (rounded mode binary64 s n 1)
+double-any mode s n h = doubled _ n h (λ k m e u l g. double-at Nearest s n k m e u l g ∙ sym (double-at mode s n k m e u l g))
+
+pub double-exact : (n : ℕ) → n < 2 ^ 53 → exact binary64 n 1 ≡ true
+double-exact n h = doubled _ n h (λ k m e u l g.
+    exact-is Nearest binary64 false n 1 k m 1 (lit< tt) (lit< tt) e (subst (λ (z : ℕ). z < 2 ^ 53) (sym (div-one m)) u) (subst (Lead binary64 k) (sym (div-one m)) l)
+    ∙ ap (λ (z : ℕ). eqb z 0) (mod-one m))
 
 -- ---- by the sign of a word
 
@@ -152,6 +158,24 @@ module _ (f : Format) (mode : Rounding) (signed : Bool) (w bits : ℕ) where
   pub unsigned : signed ≡ false → bits ≡ toBits f (rounded mode f false w 1) → bits ≡ fromInteger f mode signed w
   unsigned e p = p ∙ sym (value-is f mode false (leb (2 ^ 31) w) signed w e refl)
 
+-- what it raises
+size-is : (g n : Bool) (signed : Bool) (w : ℕ) → signed ≡ g → leb (2 ^ 31) w ≡ n → cond (signed && leb (2 ^ 31) w) (2 ^ 32 - w) w ≡ cond (g && n) (2 ^ 32 - w) w
+size-is g n signed w p q = rw (p, q)
+
+module _ (f : Format) (signed : Bool) (w raised : ℕ) where
+  of-size : (n : ℕ) → cond (signed && leb (2 ^ 31) w) (2 ^ 32 - w) w ≡ n → raised ≡ cond (exact f n 1) 0 inexact → raised ≡ fromIntegerExceptions f signed w
+  unfolding fromIntegerExceptions
+  of-size n e p = p ∙ ap (λ (z : ℕ). cond (exact f z 1) 0 inexact) (sym e)
+
+  pub below-raises : signed ≡ true → 2 ^ 31 ≤ w → raised ≡ cond (exact f (2 ^ 32 - w) 1) 0 inexact → raised ≡ fromIntegerExceptions f signed w
+  below-raises e h p = of-size (2 ^ 32 - w) (size-is true true signed w e (le-leb (2 ^ 31) w h)) p
+
+  pub up-raises : signed ≡ true → w < 2 ^ 31 → raised ≡ cond (exact f w 1) 0 inexact → raised ≡ fromIntegerExceptions f signed w
+  up-raises e h p = of-size w (size-is true false signed w e (lt-leb (2 ^ 31) w h)) p
+
+  pub unsigned-raises : signed ≡ false → raised ≡ cond (exact f w 1) 0 inexact → raised ≡ fromIntegerExceptions f signed w
+  unsigned-raises e p = of-size w (size-is false (leb (2 ^ 31) w) signed w e refl) p
+
 -- ---- a double as a whole number
 
 -- a value a / c, rounded
@@ -163,6 +187,15 @@ integer-value mode g (fin t m e) s a c C h =
     ap (λ (b : Bool). clamped g b (cutTo mode b (m * up e) (down e))) (h .0)
     ∙ ap (clamped g s) (cut-same mode s (m * up e) (down e) a c (down-pos e) C (h .1))
 
+value-raises : (mode : Rounding) (g : Bool) (v : Float) (s : Bool) (a c : ℕ) → 0 < c → HasValue v s a c → integerExceptions mode g v ≡ clampedExceptions g s (cutTo mode s a c) (eqb (a % c) 0)
+unfolding integerExceptions
+value-raises mode g nan s a c C h = absurd h
+value-raises mode g (inf t) s a c C h = absurd h
+value-raises mode g (fin t m e) s a c C h =
+    ap (λ (b : Bool). clampedExceptions g b (cutTo mode b (m * up e) (down e)) (eqb (m * up e % down e) 0)) (h .0)
+    ∙ ap (λ (z : ℕ). clampedExceptions g s z (eqb (m * up e % down e) 0)) (cut-same mode s (m * up e) (down e) a c (down-pos e) C (h .1))
+    ∙ ap (clampedExceptions g s (cutTo mode s a c)) (rest-same (m * up e) (down e) a c (down-pos e) C (h .1))
+
 abbrev field : ℕ → ℕ
 field b = b % 0x8000_0000_0000_0000 / 0x10_0000_0000_0000
 
@@ -172,15 +205,27 @@ digits b = b % 0x10_0000_0000_0000
 abbrev neg : ℕ → Bool
 neg b = leb 0x8000_0000_0000_0000 b
 
+-- a word as an integer, and what it raises
+abbrev pub ToInteger : Format → Rounding → Bool → ℕ → ℕ → ℕ → Type 0
+ToInteger f mode g b bits raised = (bits ≡ toInteger f mode g b) × (raised ≡ toIntegerExceptions f mode g b)
+
+abbrev Clamped : Bool → Bool → ℕ → Bool → ℕ → ℕ → Type 0
+Clamped g s c x bits raised = (bits ≡ clamped g s c) × (raised ≡ clampedExceptions g s c x)
+
 -- m * 2 ^ x / 2 ^ 1074 is m / 2 ^ sh
 by-cut : (mode : Rounding) (g : Bool) (v : Float) (s : Bool) (m x sh kept : ℕ) (t : Bool) → HasValue v s (m * 2 ^ x) (2 ^ 1074) → x + sh ≡ 1074 → m < 2 ^ 62
-    → IsCut mode s m (2 ^ min sh 63) kept t → clamped g s kept ≡ integerOf mode g v
+    → IsCut mode s m (2 ^ min sh 63) kept t → (clamped g s kept ≡ integerOf mode g v) × (clampedExceptions g s kept t ≡ integerExceptions mode g v)
 by-cut mode g v s m x sh kept t h e l p =
-    ap (clamped g s)
-    (p .kept-is
-    ∙ cut-far mode s m sh l
-    ∙ sym (cut-same mode s (m * 2 ^ x) (2 ^ 1074) m (2 ^ sh) (pow-pos 1074) (pow-pos sh) (mul-assoc m (2 ^ x) (2 ^ sh) ∙ ap (λ (y : ℕ). m * y) (sym (pow-add 2 x sh) ∙ ap (λ (y : ℕ). 2 ^ y) e))))
-    ∙ sym (integer-value mode g v s (m * 2 ^ x) (2 ^ 1074) (pow-pos 1074) h)
+    (ap (clamped g s) whole ∙ sym (integer-value mode g v s (m * 2 ^ x) (2 ^ 1074) (pow-pos 1074) h), ap (λ (z : ℕ). clampedExceptions g s z t) whole ∙ ap (clampedExceptions g s _) left ∙ sym (value-raises mode g v s (m * 2 ^ x) (2 ^ 1074) (pow-pos 1074) h))
+  where
+    same : m * 2 ^ x * 2 ^ sh ≡ m * 2 ^ 1074
+    same = mul-assoc m (2 ^ x) (2 ^ sh) ∙ ap (λ (y : ℕ). m * y) (sym (pow-add 2 x sh) ∙ ap (λ (y : ℕ). 2 ^ y) e)
+
+    whole : kept ≡ cutTo mode s (m * 2 ^ x) (2 ^ 1074)
+    whole = p .kept-is ∙ cut-far mode s m sh l ∙ sym (cut-same mode s (m * 2 ^ x) (2 ^ 1074) m (2 ^ sh) (pow-pos 1074) (pow-pos sh) same)
+
+    left : t ≡ eqb (m * 2 ^ x % 2 ^ 1074) 0
+    left = p .exact-is ∙ rest-far m sh l ∙ sym (rest-same (m * 2 ^ x) (2 ^ 1074) m (2 ^ sh) (pow-pos 1074) (pow-pos sh) same)
 
 clamp-large : (g s : Bool) (c : ℕ) → 2 ^ 32 ≤ c → clamped g s (2 ^ 32) ≡ clamped g s c
 clamp-large true true c h = ap (λ (x : ℕ). (2 ^ 32 - x) % 2 ^ 32) (most c h)
@@ -191,29 +236,38 @@ clamp-large true false c h = omega arith
 clamp-large false true c h = refl
 clamp-large false false c h = omega arith
 
-module _ (mode : Rounding) (g : Bool) (b r : ℕ) where
-  pub int-inf : field b ≡ 2047 → digits b ≡ 0 → r ≡ clamped g (neg b) (2 ^ 32) → r ≡ toInteger binary64 mode g b
-  unfolding toInteger integerOf
-  int-inf x t e = e ∙ sym (ap (integerOf mode g) (reads-inf binary64 b x t))
+outside-large : (g s : Bool) (c : ℕ) → 2 ^ 32 ≤ c → (x : Bool) → clampedExceptions g s c x ≡ invalid
+outside-large g s c h x = ap (λ (t : Bool). cond t invalid (cond x 0 inexact)) (go g s)
+  where
+    go : (g s : Bool) → outside g s c ≡ true
+    go true true = lt-ltb (2 ^ 31) c (omega arith)
+    go true false = le-leb (2 ^ 31) c (omega arith)
+    go false true = lt-ltb 0 c (omega arith)
+    go false false = le-leb (2 ^ 32) c h
 
-  pub int-nan : field b ≡ 2047 → (digits b ≡ 0 → ⊥) → 0 ≡ toInteger binary64 mode g b
-  unfolding toInteger integerOf
-  int-nan x t = sym (ap (integerOf mode g) (nan-of-fields binary64 b x t))
+module _ (mode : Rounding) (g : Bool) (b bits raised : ℕ) where
+  pub int-inf : field b ≡ 2047 → digits b ≡ 0 → Clamped g (neg b) (2 ^ 32) true bits raised → ToInteger binary64 mode g b bits raised
+  unfolding toInteger integerOf toIntegerExceptions integerExceptions
+  int-inf x t e =
+      let is = reads-inf binary64 b x t in
+      (e .0 ∙ sym (ap (integerOf mode g) is), e .1 ∙ outside-large g (neg b) (2 ^ 32) (lit≤ tt) true ∙ sym (ap (integerExceptions mode g) is))
 
-  pub int-low : (kept : ℕ) (t : Bool) → field b ≡ 0 → IsCut mode (neg b) (digits b) (2 ^ 63) kept t → r ≡ clamped g (neg b) kept → r ≡ toInteger binary64 mode g b
-  unfolding toInteger
-  int-low kept t x p e = e ∙ by-cut mode g (ofBits binary64 b) (neg b) (digits b) 0 1074 kept t (reads-low binary64 b x) refl (few b) p
+  pub int-low : (kept : ℕ) (t : Bool) → field b ≡ 0 → IsCut mode (neg b) (digits b) (2 ^ 63) kept t → Clamped g (neg b) kept t bits raised → ToInteger binary64 mode g b bits raised
+  unfolding toInteger toIntegerExceptions
+  int-low kept t x p e =
+      let is = by-cut mode g (ofBits binary64 b) (neg b) (digits b) 0 1074 kept t (reads-low binary64 b x) refl (few b) p in
+      (e .0 ∙ is .0, e .1 ∙ is .1)
     where
       few : (b : ℕ) → digits b < 2 ^ 62
       few b = omega arith
 
   pub int-mid : (sh kept : ℕ) (t : Bool) → (field b ≡ 0 → ⊥) → (field b ≡ 2047 → ⊥) → field b ≤ 1054 → sh ≡ min (1075 - field b) 63
-      → IsCut mode (neg b) (0x10_0000_0000_0000 + digits b) (2 ^ sh) kept t → r ≡ clamped g (neg b) kept → r ≡ toInteger binary64 mode g b
-  unfolding toInteger
+      → IsCut mode (neg b) (0x10_0000_0000_0000 + digits b) (2 ^ sh) kept t → Clamped g (neg b) kept t bits raised → ToInteger binary64 mode g b bits raised
+  unfolding toInteger toIntegerExceptions
   int-mid sh kept t some last h d p e =
-      e
-      ∙ by-cut mode g (ofBits binary64 b) (neg b) (0x10_0000_0000_0000 + digits b) (field b - 1) (1075 - field b) kept t (reads-normal binary64 b some last) (exps (field b) some h) (few b)
-      (subst (λ (z : ℕ). IsCut mode (neg b) (0x10_0000_0000_0000 + digits b) (2 ^ z) kept t) d p)
+      let is = by-cut mode g (ofBits binary64 b) (neg b) (0x10_0000_0000_0000 + digits b) (field b - 1) (1075 - field b) kept t (reads-normal binary64 b some last) (exps (field b) some h) (few b)
+      (subst (λ (z : ℕ). IsCut mode (neg b) (0x10_0000_0000_0000 + digits b) (2 ^ z) kept t) d p) in
+      (e .0 ∙ is .0, e .1 ∙ is .1)
     where
       exps : (x : ℕ) → (x ≡ 0 → ⊥) → x ≤ 1054 → x - 1 + (1075 - x) ≡ 1074
       exps x p h = omega arith
@@ -221,12 +275,19 @@ module _ (mode : Rounding) (g : Bool) (b r : ℕ) where
       few : (b : ℕ) → 0x10_0000_0000_0000 + digits b < 2 ^ 62
       few b = omega arith
 
-  pub int-large : (field b ≡ 0 → ⊥) → (field b ≡ 2047 → ⊥) → 1054 < field b → r ≡ clamped g (neg b) (2 ^ 32) → r ≡ toInteger binary64 mode g b
-  unfolding toInteger
+  pub int-large : (field b ≡ 0 → ⊥) → (field b ≡ 2047 → ⊥) → 1054 < field b → Clamped g (neg b) (2 ^ 32) true bits raised → ToInteger binary64 mode g b bits raised
+  unfolding toInteger toIntegerExceptions
   int-large some last h e =
-      e
-      ∙ clamp-large g (neg b) _ (le-trans (le-div-iff-mul-le (pow-pos 1074) .1 reaches) (move-ge mode (neg b) ((0x10_0000_0000_0000 + digits b) * 2 ^ (field b - 1) / 2 ^ 1074) _ _))
-      ∙ sym (integer-value mode g (ofBits binary64 b) (neg b) ((0x10_0000_0000_0000 + digits b) * 2 ^ (field b - 1)) (2 ^ 1074) (pow-pos 1074) (reads-normal binary64 b some last))
+      let v = ofBits binary64 b in
+      let a = (0x10_0000_0000_0000 + digits b) * 2 ^ (field b - 1) in
+      let has = reads-normal binary64 b some last in
+      let reach : 2 ^ 32 ≤ cutTo mode (neg b) a (2 ^ 1074) = le-trans (le-div-iff-mul-le (pow-pos 1074) .1 reaches) (move-ge mode (neg b) (a / 2 ^ 1074) _ _) in (
+        e .0 ∙ clamp-large g (neg b) (cutTo mode (neg b) a (2 ^ 1074)) reach ∙ sym (integer-value mode g v (neg b) a (2 ^ 1074) (pow-pos 1074) has),
+        e .1
+            ∙ outside-large g (neg b) (2 ^ 32) (lit≤ tt) true
+            ∙ sym (outside-large g (neg b) (cutTo mode (neg b) a (2 ^ 1074)) reach (eqb (a % 2 ^ 1074) 0))
+            ∙ sym (value-raises mode g v (neg b) a (2 ^ 1074) (pow-pos 1074) has),
+      )
     where
       lead : (b : ℕ) → 2 ^ 52 ≤ 0x10_0000_0000_0000 + digits b
       lead b = omega arith
@@ -236,6 +297,10 @@ module _ (mode : Rounding) (g : Bool) (b r : ℕ) where
 
       reaches : 2 ^ 32 * 2 ^ 1074 ≤ (0x10_0000_0000_0000 + digits b) * 2 ^ (field b - 1)
       reaches = le-trans (lit≤ tt) (mul-le-mul {n₁ = 2 ^ 52} {m₁ = 2 ^ 1054} (lead b) (pow-mono {i = 1054} (more (field b) h)))
+
+pub int-nan : (mode : Rounding) (g : Bool) (b : ℕ) → field b ≡ 2047 → (digits b ≡ 0 → ⊥) → ToInteger binary64 mode g b 0 invalid
+unfolding toInteger integerOf toIntegerExceptions integerExceptions
+int-nan mode g b x t = let is = nan-of-fields binary64 b x t in (sym (ap (integerOf mode g) is), sym (ap (integerExceptions mode g) is))
 
 -- ---- a single, widened
 
@@ -249,6 +314,8 @@ widened-value control b l = by (nanBits binary32 b) refl
         ∙ sym (reads-nan binary32 b e)
     by false e = ofBits-toBits binary64 (ofBits binary32 b) (fits-widens (ofBits binary32 b) (ofBits-fits binary32 b))
 
-pub by-widening : (mode : Rounding) (g : Bool) (control b r w : ℕ) → b < 2 ^ 32 → w ≡ widen control b → r ≡ toInteger binary64 mode g w → r ≡ toInteger binary32 mode g b
-unfolding toInteger
-by-widening mode g control b r w l e p = p ∙ ap (λ (z : ℕ). integerOf mode g (ofBits binary64 z)) e ∙ ap (integerOf mode g) (widened-value control b l)
+pub by-widening : (mode : Rounding) (g : Bool) (control b bits raised w : ℕ) → b < 2 ^ 32 → w ≡ widen control b → ToInteger binary64 mode g w bits raised → ToInteger binary32 mode g b bits raised
+unfolding toInteger toIntegerExceptions
+by-widening mode g control b bits raised w l e p =
+    let same : ofBits binary64 w ≡ ofBits binary32 b = ap (ofBits binary64) e ∙ widened-value control b l in
+    (p .0 ∙ ap (integerOf mode g) same, p .1 ∙ ap (integerExceptions mode g) same)

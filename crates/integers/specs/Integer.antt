@@ -1,9 +1,10 @@
 -- Integers' words as floats, and floats as integers' words. Assumes nothing.
 use Prim.Native.Nat.{ℕ, _-_, _*_, _%_, _^_, min}
 use mathlib.Core.Bool.{Bool, true, false, _&&_, cond}
-use lib.Dec.{leb}
+use lib.Dec.{leb, ltb, eqb}
 use lib.Ieee.{Float, nan, inf, fin, Format, up, down, ofBits, toBits}
-use Rattle.rounding.specs.Rounding.{rounded, cutTo}
+use Rattle.rounding.specs.Rounding.{rounded, exact, cutTo}
+use Rattle.exceptions.specs.Exceptions.{invalid, inexact}
 use Rattle.rounding.specs.declared.rounding.Rounding.{Rounding}
 
 -- a word of 32 bits, signed or not, as a value
@@ -29,3 +30,30 @@ integerOf mode signed (fin s m e) = clamped signed s (cutTo mode s (m * up e) (d
 
 unfoldable pub toInteger : Format → Rounding → Bool → ℕ → ℕ
 toInteger f mode signed b = integerOf mode signed (ofBits f b)
+
+-- ---- what they raise
+
+-- an integer is neither too large for a float nor tiny: inexact where it is no value of the format
+unfoldable pub fromIntegerExceptions : Format → Bool → ℕ → ℕ
+fromIntegerExceptions f signed w = cond (exact f (cond (signed && leb (2 ^ 31) w) (2 ^ 32 - w) w) 1) 0 inexact
+
+-- the integer of the sign s and the size c is outside the range
+abbrev pub outside : Bool → Bool → ℕ → Bool
+outside true true c = ltb (2 ^ 31) c
+outside true false c = leb (2 ^ 31) c
+outside false true c = ltb 0 c
+outside false false c = leb (2 ^ 32) c
+
+-- there it is invalid; else inexact, unless nothing was dropped to make it whole
+abbrev pub clampedExceptions : Bool → Bool → ℕ → Bool → ℕ
+clampedExceptions signed s c x = cond (outside signed s c) invalid (cond x 0 inexact)
+
+-- what has no integer, for it is a NaN, infinite or outside the range once it is rounded, is invalid
+unfoldable pub integerExceptions : Rounding → Bool → Float → ℕ
+integerExceptions mode signed nan = invalid
+integerExceptions mode signed (inf s) = invalid
+integerExceptions mode signed (fin s m e) = clampedExceptions signed s (cutTo mode s (m * up e) (down e)) (eqb (m * up e % down e) 0)
+
+unfoldable pub toIntegerExceptions : Format → Rounding → Bool → ℕ → ℕ
+unfolding integerExceptions
+toIntegerExceptions f mode signed b = integerExceptions mode signed (ofBits f b)

@@ -1,18 +1,20 @@
 -- At `Nearest` the operators are the logic's own. Assumes nothing.
 use mathlib.Core.Path.{_≡_, refl, ap, _∙_}
 use mathlib.Core.Bool.{Bool, true, false, _&&_, cond, Bool·beq}
-use Prim.Native.Nat.{ℕ, _+_, _-_, _*_}
+use Prim.Native.Nat.{ℕ, _+_, _-_, _*_, _≤_, _<_}
+use native.Mathlib.Omega.{arith}
+use borrow.Author.Tests.{ltb-true, ltb-false}
 use lib.Dec.{ltb, eqb}
 use lib.Ieee as ieee
 use lib.Ieee.{Float, nan, inf, fin, Format, up, down, unlike, neg, add, sub, mul, div}
-use Rattle.rounding.specs.Rounding.{rounded}
+use Rattle.rounding.specs.Rounding.{rounded, apart}
 use Rattle.rounding.specs.declared.rounding.Rounding.the-variants.{Nearest}
 use Rattle.packing.proofs.Written.{rounded-nearest}
 use Rattle.operators.specs.Operators.{sumOf, sum, difference, product, quotient}
 
 sum-of-nearest : (f : Format) (s : Bool) (a : ℕ) (t : Bool) (b c : ℕ) → sumOf Nearest f s a t b c ≡ ieee.sum f s a t b c
 unfolding sumOf ieee.sum
-sum-of-nearest f s a t b c = go (Bool·beq s t) (ltb a b) (ltb b a)
+sum-of-nearest f s a t b c = go (Bool·beq s t) (ltb a b) (ltb b a) (ltb-true a b) (ltb-false a b)
   where
     off : (s z : Bool) → cond z s false ≡ (s && z)
     off true true = refl
@@ -20,12 +22,20 @@ sum-of-nearest f s a t b c = go (Bool·beq s t) (ltb a b) (ltb b a)
     off false true = refl
     off false false = refl
 
-    go : (x y z : Bool)
-        → cond x (rounded Nearest f s (a + b) c) (cond y (rounded Nearest f t (b - a) c) (rounded Nearest f (cond z s false) (a - b) c))
+    over : (a b : ℕ) → a < b → apart a b ≡ b - a
+    over a b l = omega arith
+
+    under : (a b : ℕ) → b ≤ a → apart a b ≡ a - b
+    under a b l = omega arith
+
+    go : (x y z : Bool) → (y ≡ true → a < b) → (y ≡ false → b ≤ a) → rounded Nearest f (cond x s (cond y t (cond z s false))) (cond x (a + b) (apart a b)) c
         ≡ cond x (ieee.round f s (a + b) c) (cond y (ieee.round f t (b - a) c) (ieee.round f (s && z) (a - b) c))
-    go true y z = rounded-nearest f s (a + b) c
-    go false true z = rounded-nearest f t (b - a) c
-    go false false z = rounded-nearest f (cond z s false) (a - b) c ∙ ap (λ (w : Bool). ieee.round f w (a - b) c) (off s z)
+    go true y z p q = rounded-nearest f s (a + b) c
+    go false true z p q = rounded-nearest f t (apart a b) c ∙ ap (λ (n : ℕ). ieee.round f t n c) (over a b (p refl))
+    go false false z p q =
+        rounded-nearest f (cond z s false) (apart a b) c
+        ∙ ap (λ (w : Bool). ieee.round f w (apart a b) c) (off s z)
+        ∙ ap (λ (n : ℕ). ieee.round f (s && z) n c) (under a b (q refl))
 
 pub sum-nearest : (f : Format) (x y : Float) → sum Nearest f x y ≡ add f x y
 unfolding sum add

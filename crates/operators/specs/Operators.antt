@@ -1,11 +1,11 @@
 -- Sum, product and quotient in every rounding mode, over the format. The exact result is a fraction of whole numbers, which `rounded` rounds once,
 -- overflow included. NaN and infinity are as in `lib.Ieee`, clause by clause, and at `Nearest` each operator is its own (proofs/Nearest). Assumes nothing.
-use Prim.Native.Nat.{ℕ, _+_, _-_, _*_}
+use Prim.Native.Nat.{ℕ, _+_, _*_}
 use mathlib.Core.Bool.{Bool, true, false, cond, Bool·beq}
 use lib.Dec.{ltb, eqb}
 use lib.IntN.{pos}
 use lib.Ieee.{Float, nan, inf, fin, Format, up, down, unlike, neg, ofBits, toBits}
-use Rattle.rounding.specs.Rounding.{rounded}
+use Rattle.rounding.specs.Rounding.{rounded, apart}
 use Rattle.rounding.specs.declared.rounding.Rounding.{Rounding}
 use Rattle.rounding.specs.declared.rounding.Rounding.the-variants.{Nearest, Up, Down, Zero}
 
@@ -16,11 +16,16 @@ zeroSign Up = false
 zeroSign Down = true
 zeroSign Zero = false
 
+-- ±a + ±b: its size, and its sign. An exact zero of unlike signs has the sign that the mode gives it.
+abbrev pub sumSize : Bool → ℕ → Bool → ℕ → ℕ
+sumSize s a t b = cond (Bool·beq s t) (a + b) (apart a b)
+
+abbrev pub sumSign : Rounding → Bool → ℕ → Bool → ℕ → Bool
+sumSign mode s a t b = cond (Bool·beq s t) s (cond (ltb a b) t (cond (ltb b a) s (zeroSign mode)))
+
 -- ±a / c + ±b / c
 unfoldable pub sumOf : Rounding → Format → Bool → ℕ → Bool → ℕ → ℕ → Float
-sumOf mode f s a t b c =
-    cond (Bool·beq s t) (rounded mode f s (a + b) c)
-    (cond (ltb a b) (rounded mode f t (b - a) c) (rounded mode f (cond (ltb b a) s (zeroSign mode)) (a - b) c))
+sumOf mode f s a t b c = rounded mode f (sumSign mode s a t b) (sumSize s a t b) c
 
 unfoldable pub sum : Rounding → Format → Float → Float → Float
 unfolding sumOf

@@ -1,10 +1,10 @@
-// The product of two words by a mode. A single's digits are multiplied as they are; of a double's 106 digits the leading 61 are kept, and whether
+// The product of two words by a mode, and the exceptions that it raises. A single's digits are multiplied as they are; of a double's 106 digits the leading 61 are kept, and whether
 // something is left.
-ghost use mathlib.Core.Path.{_≡_};
 ghost use Prim.Native.Nat.{_*_, _≤_, _<_, _^_};
 ghost use lib.Ieee.{binary32, binary64};
 ghost use Rattle.rounding.specs.declared.rounding.Rounding.{Rounding};
-ghost use Rattle.operators.specs.Operators.{product, onWords};
+ghost use Rattle.operators.specs.Operators.{product};
+ghost use Rattle.exceptions.specs.Operators.{productExceptions, IsResult};
 ghost use Rattle.digits.specs.Digits.{IsNumber, IsFolded};
 ghost use Rattle.products.specs.Halves.{Halves};
 use digits::operand::is_number32;
@@ -17,6 +17,13 @@ use digits::raise::sticky;
 use digits::sign::signed32;
 use digits::sign::signed64;
 use digits::sign::unlike;
+use exceptions::exceptions::Raised32;
+use exceptions::exceptions::Raised64;
+use exceptions::exceptions::invalid32;
+use exceptions::exceptions::invalid64;
+use exceptions::exceptions::settled;
+use exceptions::exceptions::silent32;
+use exceptions::exceptions::silent64;
 use rounding::rounding::Rounding;
 
 // high * 2 ^ 45 + low
@@ -53,89 +60,95 @@ fn product_digits(a: u64, b: u64) -> u64
 }
 
 // Of words that are finite and not 0.
-fn number_product32(mode: Rounding, a: u32, b: u32) -> u32
+fn number_product32(mode: Rounding, a: u32, b: u32) -> Raised32
     requires { ⌜ IsNumber binary32 a × IsNumber binary32 b ⌝ }
-    ensures { λ r. ⌜ r ≡ onWords binary32 (product mode binary32) a b ⌝ }
+    ensures { λ r. ⌜ IsResult binary32 (product mode binary32) (productExceptions mode binary32) a b (r .bits) (r .exceptions) ⌝ }
 {
     let p = operand32(a);
     let q = operand32(b);
     let m = p.m / 0x2000_0000 * (q.m / 0x2000_0000);
     let negative = unlike(a >= 0x8000_0000, b >= 0x8000_0000);
     let s = raised32(mode, negative, m, p.e + q.e + 15);
-    s.bits
+    Raised32 {
+        bits: s.bits,
+        exceptions: settled(s.exact, s.over, s.tiny),
+    }
 }
 
-fn number_product64(mode: Rounding, a: u64, b: u64) -> u64
+fn number_product64(mode: Rounding, a: u64, b: u64) -> Raised64
     requires { ⌜ IsNumber binary64 a × IsNumber binary64 b ⌝ }
-    ensures { λ r. ⌜ r ≡ onWords binary64 (product mode binary64) a b ⌝ }
+    ensures { λ r. ⌜ IsResult binary64 (product mode binary64) (productExceptions mode binary64) a b (r .bits) (r .exceptions) ⌝ }
 {
     let p = operand64(a);
     let q = operand64(b);
     let m = product_digits(p.m, q.m);
     let negative = unlike(a >= 0x8000_0000_0000_0000, b >= 0x8000_0000_0000_0000);
-    let s = raised64(mode, negative, m, p.e + q.e + 1);
-    s.bits
+    let d = raised64(mode, negative, m, p.e + q.e + 1);
+    Raised64 {
+        bits: d.bits,
+        exceptions: settled(d.exact, d.over, d.tiny),
+    }
 }
 
 // Where a word is a NaN, an infinity or a zero: no mode changes it.
-fn special_product32(a: u32, b: u32) -> u32
+fn special_product32(a: u32, b: u32) -> Raised32
     requires { ⌜ (IsNumber binary32 a → IsNumber binary32 b → ⊥) ⌝ }
-    ensures { λ r. ⌜ ((mode : Rounding) → r ≡ onWords binary32 (product mode binary32) a b) ⌝ }
+    ensures { λ r. ⌜ ((mode : Rounding) → IsResult binary32 (product mode binary32) (productExceptions mode binary32) a b (r .bits) (r .exceptions)) ⌝ }
 {
     let x = a % 0x8000_0000;
     let y = b % 0x8000_0000;
     if x > 0x7F80_0000 {
-        return 0x7FC0_0000;
+        return silent32(0x7FC0_0000);
     }
     if y > 0x7F80_0000 {
-        return 0x7FC0_0000;
+        return silent32(0x7FC0_0000);
     }
     let negative = unlike(a >= 0x8000_0000, b >= 0x8000_0000);
     if x == 0x7F80_0000 {
         if y == 0 {
-            return 0x7FC0_0000;
+            return invalid32();
         }
-        return signed32(negative, 0x7F80_0000);
+        return silent32(signed32(negative, 0x7F80_0000));
     }
     if y == 0x7F80_0000 {
         if x == 0 {
-            return 0x7FC0_0000;
+            return invalid32();
         }
-        return signed32(negative, 0x7F80_0000);
+        return silent32(signed32(negative, 0x7F80_0000));
     }
-    signed32(negative, 0)
+    silent32(signed32(negative, 0))
 }
 
-fn special_product64(a: u64, b: u64) -> u64
+fn special_product64(a: u64, b: u64) -> Raised64
     requires { ⌜ (IsNumber binary64 a → IsNumber binary64 b → ⊥) ⌝ }
-    ensures { λ r. ⌜ ((mode : Rounding) → r ≡ onWords binary64 (product mode binary64) a b) ⌝ }
+    ensures { λ r. ⌜ ((mode : Rounding) → IsResult binary64 (product mode binary64) (productExceptions mode binary64) a b (r .bits) (r .exceptions)) ⌝ }
 {
     let x = a % 0x8000_0000_0000_0000;
     let y = b % 0x8000_0000_0000_0000;
     if x > 0x7FF0_0000_0000_0000 {
-        return 0x7FF8_0000_0000_0000;
+        return silent64(0x7FF8_0000_0000_0000);
     }
     if y > 0x7FF0_0000_0000_0000 {
-        return 0x7FF8_0000_0000_0000;
+        return silent64(0x7FF8_0000_0000_0000);
     }
     let negative = unlike(a >= 0x8000_0000_0000_0000, b >= 0x8000_0000_0000_0000);
     if x == 0x7FF0_0000_0000_0000 {
         if y == 0 {
-            return 0x7FF8_0000_0000_0000;
+            return invalid64();
         }
-        return signed64(negative, 0x7FF0_0000_0000_0000);
+        return silent64(signed64(negative, 0x7FF0_0000_0000_0000));
     }
     if y == 0x7FF0_0000_0000_0000 {
         if x == 0 {
-            return 0x7FF8_0000_0000_0000;
+            return invalid64();
         }
-        return signed64(negative, 0x7FF0_0000_0000_0000);
+        return silent64(signed64(negative, 0x7FF0_0000_0000_0000));
     }
-    signed64(negative, 0)
+    silent64(signed64(negative, 0))
 }
 
-pub fn product32(mode: Rounding, a: u32, b: u32) -> u32
-    ensures { λ r. ⌜ r ≡ onWords binary32 (product mode binary32) a b ⌝ }
+pub fn product32(mode: Rounding, a: u32, b: u32) -> Raised32
+    ensures { λ r. ⌜ IsResult binary32 (product mode binary32) (productExceptions mode binary32) a b (r .bits) (r .exceptions) ⌝ }
 {
     if is_number32(a) {
         if is_number32(b) {
@@ -146,8 +159,8 @@ pub fn product32(mode: Rounding, a: u32, b: u32) -> u32
     special_product32(a, b)
 }
 
-pub fn product64(mode: Rounding, a: u64, b: u64) -> u64
-    ensures { λ r. ⌜ r ≡ onWords binary64 (product mode binary64) a b ⌝ }
+pub fn product64(mode: Rounding, a: u64, b: u64) -> Raised64
+    ensures { λ r. ⌜ IsResult binary64 (product mode binary64) (productExceptions mode binary64) a b (r .bits) (r .exceptions) ⌝ }
 {
     if is_number64(a) {
         if is_number64(b) {

@@ -1,26 +1,29 @@
 -- The quotient of two operands, from its digits. Over the mode and the format. Assumes nothing.
-use mathlib.Core.Path.{_≡_, sym, ap, _∙_}
+use mathlib.Core.Path.{_≡_, sym, ap, _∙_, subst}
 use mathlib.Core.Bool.{Bool}
 use Prim.Native.Nat.{ℕ, suc, _+_, _-_, _*_, _/_, _%_, _^_, _≤_, _<_}
 use native.Mathlib.Nat.{mul-pos}
 use native.Mathlib.Omega.{arith}
 use lib.Pow.{pow-add, pow-pos}
-use lib.Ieee.{Float, Format, prec, unlike}
-use Rattle.rounding.specs.Rounding.{rounded}
+use lib.Ieee.{Float, Format, prec, unlike, toBits}
 use Rattle.rounding.specs.declared.rounding.Rounding.{Rounding}
 use Rattle.operators.specs.Operators.{quotient}
 use Rattle.digits.specs.Digits.{IsOperand, IsFolded}
-use Rattle.packing.proofs.Written.{rounded-same}
-use Rattle.operators.proofs.Values.{quotient-at}
-use Rattle.digits.proofs.Sticky.{folded-rounds}
+use Rattle.packing.specs.Pack.{IsSettled}
+use Rattle.exceptions.specs.Exceptions.{settledExceptions}
+use Rattle.exceptions.specs.Operators.{quotientExceptions}
+use Rattle.packing.proofs.Settle.{settled-same}
+use Rattle.exceptions.proofs.Values.{quotient-settles}
+use Rattle.digits.proofs.Sticky.{folded-settles}
 
 -- k digits more were made of the quotient by v, where the divisor is v and j digits of 0
-pub folded-quotient : (mode : Rounding) (f : Format) (x y : Float) (s t : Bool) (a ea b eb n k v j m e : ℕ) → IsOperand x s a ea → IsOperand y t b eb → b ≡ v * 2 ^ j → prec f ≤ n → IsFolded n (a * 2 ^ k) v m
-    → k + suc e + j + eb ≡ ea + 2209 → rounded mode f (unlike s t) (m * 2 ^ e) (2 ^ 2209) ≡ quotient mode f x y
-folded-quotient mode f x y s t a ea b eb n k v j m e p q d l w exps =
-    sym (folded-rounds mode f (unlike s t) n (a * 2 ^ k) v m e l w)
-    ∙ rounded-same mode f (unlike s t) (a * 2 ^ k * 2 ^ suc e) (v * 2 ^ 2209) (a * 2 ^ ea * 2 ^ 1126) (b * 2 ^ eb * 2 ^ 1126) (mul-pos (some (w .rest) v (w .small)) (pow-pos 2209)) (mul-pos B (pow-pos 1126)) same
-    ∙ sym (quotient-at mode f x y s t (a * 2 ^ ea) (2 ^ 1126) (b * 2 ^ eb) (2 ^ 1126) (pow-pos 1126) (pow-pos 1126) B (p .value) (q .value))
+pub folded-quotient : (mode : Rounding) (f : Format) (x y : Float) (s t : Bool) (a ea b eb n k v j m e bits : ℕ) (g i o l : Bool) → IsOperand x s a ea → IsOperand y t b eb → b ≡ v * 2 ^ j → prec f ≤ n → IsFolded n (a * 2 ^ k) v m
+    → k + suc e + j + eb ≡ ea + 2209 → g ≡ unlike s t → IsSettled mode f g (m * 2 ^ e) (2 ^ 2209) bits i o l
+    → (bits ≡ toBits f (quotient mode f x y)) × (settledExceptions i o l ≡ quotientExceptions mode f x y)
+folded-quotient mode f x y s t a ea b eb n k v j m e bits g i o l p q d few w exps sign h =
+    quotient-settles mode f x y s t (a * 2 ^ ea) (2 ^ 1126) (b * 2 ^ eb) (2 ^ 1126) bits i o l (pow-pos 1126) (pow-pos 1126) B (p .value) (q .value)
+    (settled-same mode f (unlike s t) (a * 2 ^ k * 2 ^ suc e) (v * 2 ^ 2209) (a * 2 ^ ea * 2 ^ 1126) (b * 2 ^ eb * 2 ^ 1126) bits i o l (mul-pos (some (w .rest) v (w .small)) (pow-pos 2209)) (mul-pos B (pow-pos 1126)) same
+    (folded-settles mode f (unlike s t) n (a * 2 ^ k) v m e few w bits i o l (subst (λ (z : Bool). IsSettled mode f z (m * 2 ^ e) (2 ^ 2209) bits i o l) sign h)))
   where
     some : (r v : ℕ) → r < v → 0 < v
     some r v h = omega arith

@@ -1,10 +1,10 @@
-// The quotient of two words by a mode: enough digits for the width, and whether something is left. A single's come from one division, a double's
-// eleven at a time.
-ghost use mathlib.Core.Path.{_≡_};
+// The quotient of two words by a mode, and the exceptions that it raises: enough digits for the width, and whether something is left. A single's come
+// from one division, a double's eleven at a time.
 ghost use Prim.Native.Nat.{_+_, _*_, _/_, _≤_, _<_, _^_};
 ghost use lib.Ieee.{binary32, binary64};
 ghost use Rattle.rounding.specs.declared.rounding.Rounding.{Rounding};
-ghost use Rattle.operators.specs.Operators.{quotient, onWords};
+ghost use Rattle.operators.specs.Operators.{quotient};
+ghost use Rattle.exceptions.specs.Operators.{quotientExceptions, IsResult};
 ghost use Rattle.digits.specs.Digits.{IsNumber, IsFolded};
 ghost use Rattle.quotients.specs.Divided.{IsDivided};
 use digits::operand::is_number32;
@@ -17,6 +17,14 @@ use digits::raise::sticky;
 use digits::sign::signed32;
 use digits::sign::signed64;
 use digits::sign::unlike;
+use exceptions::exceptions::DIVISION_BY_ZERO;
+use exceptions::exceptions::Raised32;
+use exceptions::exceptions::Raised64;
+use exceptions::exceptions::invalid32;
+use exceptions::exceptions::invalid64;
+use exceptions::exceptions::settled;
+use exceptions::exceptions::silent32;
+use exceptions::exceptions::silent64;
 use rounding::rounding::Rounding;
 
 // A quotient's digits so far, and what is left.
@@ -80,95 +88,107 @@ fn quotient_digits32(a: u64, b: u64) -> u64
 }
 
 // Of words that are finite and not 0.
-fn number_quotient32(mode: Rounding, a: u32, b: u32) -> u32
+fn number_quotient32(mode: Rounding, a: u32, b: u32) -> Raised32
     requires { ⌜ IsNumber binary32 a × IsNumber binary32 b ⌝ }
-    ensures { λ r. ⌜ r ≡ onWords binary32 (quotient mode binary32) a b ⌝ }
+    ensures { λ r. ⌜ IsResult binary32 (quotient mode binary32) (quotientExceptions mode binary32) a b (r .bits) (r .exceptions) ⌝ }
 {
     let p = operand32(a);
     let q = operand32(b);
     let m = quotient_digits32(p.m, q.m);
     let negative = unlike(a >= 0x8000_0000, b >= 0x8000_0000);
     let s = raised32(mode, negative, m, p.e + 2170 - q.e);
-    s.bits
+    Raised32 {
+        bits: s.bits,
+        exceptions: settled(s.exact, s.over, s.tiny),
+    }
 }
 
-fn number_quotient64(mode: Rounding, a: u64, b: u64) -> u64
+fn number_quotient64(mode: Rounding, a: u64, b: u64) -> Raised64
     requires { ⌜ IsNumber binary64 a × IsNumber binary64 b ⌝ }
-    ensures { λ r. ⌜ r ≡ onWords binary64 (quotient mode binary64) a b ⌝ }
+    ensures { λ r. ⌜ IsResult binary64 (quotient mode binary64) (quotientExceptions mode binary64) a b (r .bits) (r .exceptions) ⌝ }
 {
     let p = operand64(a);
     let q = operand64(b);
     let m = quotient_digits64(p.m, q.m);
     let negative = unlike(a >= 0x8000_0000_0000_0000, b >= 0x8000_0000_0000_0000);
-    let s = raised64(mode, negative, m, p.e + 2153 - q.e);
-    s.bits
+    let d = raised64(mode, negative, m, p.e + 2153 - q.e);
+    Raised64 {
+        bits: d.bits,
+        exceptions: settled(d.exact, d.over, d.tiny),
+    }
 }
 
 // Where a word is a NaN, an infinity or a zero: no mode changes it.
-fn special_quotient32(a: u32, b: u32) -> u32
+fn special_quotient32(a: u32, b: u32) -> Raised32
     requires { ⌜ (IsNumber binary32 a → IsNumber binary32 b → ⊥) ⌝ }
-    ensures { λ r. ⌜ ((mode : Rounding) → r ≡ onWords binary32 (quotient mode binary32) a b) ⌝ }
+    ensures { λ r. ⌜ ((mode : Rounding) → IsResult binary32 (quotient mode binary32) (quotientExceptions mode binary32) a b (r .bits) (r .exceptions)) ⌝ }
 {
     let x = a % 0x8000_0000;
     let y = b % 0x8000_0000;
     if x > 0x7F80_0000 {
-        return 0x7FC0_0000;
+        return silent32(0x7FC0_0000);
     }
     if y > 0x7F80_0000 {
-        return 0x7FC0_0000;
+        return silent32(0x7FC0_0000);
     }
     let negative = unlike(a >= 0x8000_0000, b >= 0x8000_0000);
     if x == 0x7F80_0000 {
         if y == 0x7F80_0000 {
-            return 0x7FC0_0000;
+            return invalid32();
         }
-        return signed32(negative, 0x7F80_0000);
+        return silent32(signed32(negative, 0x7F80_0000));
     }
     if y == 0x7F80_0000 {
-        return signed32(negative, 0);
+        return silent32(signed32(negative, 0));
     }
     if y == 0 {
         if x == 0 {
-            return 0x7FC0_0000;
+            return invalid32();
         }
-        return signed32(negative, 0x7F80_0000);
+        return Raised32 {
+            bits: signed32(negative, 0x7F80_0000),
+            exceptions: DIVISION_BY_ZERO,
+        };
     }
-    signed32(negative, 0)
+    silent32(signed32(negative, 0))
 }
 
-fn special_quotient64(a: u64, b: u64) -> u64
+fn special_quotient64(a: u64, b: u64) -> Raised64
     requires { ⌜ (IsNumber binary64 a → IsNumber binary64 b → ⊥) ⌝ }
-    ensures { λ r. ⌜ ((mode : Rounding) → r ≡ onWords binary64 (quotient mode binary64) a b) ⌝ }
+    ensures { λ r. ⌜ ((mode : Rounding) → IsResult binary64 (quotient mode binary64) (quotientExceptions mode binary64) a b (r .bits) (r .exceptions)) ⌝ }
 {
     let x = a % 0x8000_0000_0000_0000;
     let y = b % 0x8000_0000_0000_0000;
     if x > 0x7FF0_0000_0000_0000 {
-        return 0x7FF8_0000_0000_0000;
+        return silent64(0x7FF8_0000_0000_0000);
     }
     if y > 0x7FF0_0000_0000_0000 {
-        return 0x7FF8_0000_0000_0000;
+        return silent64(0x7FF8_0000_0000_0000);
     }
     let negative = unlike(a >= 0x8000_0000_0000_0000, b >= 0x8000_0000_0000_0000);
     if x == 0x7FF0_0000_0000_0000 {
         if y == 0x7FF0_0000_0000_0000 {
-            return 0x7FF8_0000_0000_0000;
+            return invalid64();
         }
-        return signed64(negative, 0x7FF0_0000_0000_0000);
+        return silent64(signed64(negative, 0x7FF0_0000_0000_0000));
     }
     if y == 0x7FF0_0000_0000_0000 {
-        return signed64(negative, 0);
+        return silent64(signed64(negative, 0));
     }
     if y == 0 {
         if x == 0 {
-            return 0x7FF8_0000_0000_0000;
+            return invalid64();
         }
-        return signed64(negative, 0x7FF0_0000_0000_0000);
+        return Raised64 {
+            bits: signed64(negative, 0x7FF0_0000_0000_0000),
+            exceptions: DIVISION_BY_ZERO,
+        };
     }
-    signed64(negative, 0)
+    silent64(signed64(negative, 0))
 }
 
-pub fn quotient32(mode: Rounding, a: u32, b: u32) -> u32
-    ensures { λ r. ⌜ r ≡ onWords binary32 (quotient mode binary32) a b ⌝ }
+pub fn quotient32(mode: Rounding, a: u32, b: u32) -> Raised32
+    ensures { λ r. ⌜ IsResult binary32 (quotient mode binary32) (quotientExceptions mode binary32) a b (r .bits) (r .exceptions) ⌝ }
 {
     if is_number32(a) {
         if is_number32(b) {
@@ -179,8 +199,8 @@ pub fn quotient32(mode: Rounding, a: u32, b: u32) -> u32
     special_quotient32(a, b)
 }
 
-pub fn quotient64(mode: Rounding, a: u64, b: u64) -> u64
-    ensures { λ r. ⌜ r ≡ onWords binary64 (quotient mode binary64) a b ⌝ }
+pub fn quotient64(mode: Rounding, a: u64, b: u64) -> Raised64
+    ensures { λ r. ⌜ IsResult binary64 (quotient mode binary64) (quotientExceptions mode binary64) a b (r .bits) (r .exceptions) ⌝ }
 {
     if is_number64(a) {
         if is_number64(b) {

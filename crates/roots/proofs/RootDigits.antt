@@ -1,7 +1,7 @@
 -- The loop that makes a root's digits: what holds after i of them. Assumes nothing.
 use mathlib.Core.Path.{_≡_, refl, sym, ap, _∙_, subst}
 use mathlib.Core.Bool.{Bool, true, false}
-use Prim.Native.Nat.{ℕ, suc, _+_, _*_, _/_, _%_, _^_, _≤_, _<_, compare, Ordering, Ordering·lt, Ordering·eq, Ordering·gt}
+use Prim.Native.Nat.{ℕ, suc, _+_, _*_, _/_, _%_, _^_, _≤_, _<_, zero-le, compare, Ordering, Ordering·lt, Ordering·eq, Ordering·gt}
 use native.Mathlib.Nat.{le-trans, le-of-eq, lt-of-lt-of-le, lt-of-le-of-lt, le-antisymm, mul-one, mul-assoc, div-one, zero-add}
 use native.Mathlib.Omega.{arith}
 use native.Mathlib.Numerals.{add-one}
@@ -10,6 +10,7 @@ use lib.Ieee.Fits.{eq→eqb}
 use lib.Arith.{digits-div}
 use lib.Pow.{pow-add, pow-mono, shl-exact}
 use Rattle.rounding.specs.declared.rounding.Rounding.{Rounding}
+use Rattle.rounding.specs.declared.rounding.Rounding.the-variants.{Nearest, Up, Down, Zero}
 use Rattle.rounding.specs.Rounding.{move}
 use Rattle.rounding.proofs.Cutting.{move-le}
 use Rattle.rounding.proofs.Order.{Cmp, cmp, compare-is}
@@ -106,7 +107,7 @@ rounds mode n q r h =
     ∙ ap (λ (z : ℕ). move mode false z (compare (4 * n) ((2 * z + 1) * (2 * z + 1) * 1)) (eqb (z * z * 1) n)) (sym is)
 
 pub rooted-is : (mode : Rounding) (n w steps q r kept : ℕ) (x : Bool) → IsRoot w q r → w ≡ n → q < 2 ^ steps
-    → kept ≡ move mode false q (compare (r * 2 * 2) (q * 4 + 1)) (eqb (r * 2) 0) → x ≡ eqb (r * 2) 0 → IsRooted mode n steps kept x
+    → kept ≡ move mode false q (compare (r * 2 * 2) (q * 4 + 1)) (eqb (r * 2) 0) → x ≡ eqb (r * 2) 0 → IsRooted mode n (2 ^ steps) kept x
 rooted-is mode n w steps q r kept x h e l p d =
     let g : IsRoot n q r = subst (λ (z : ℕ). IsRoot z q r) e h in
     record {
@@ -114,6 +115,44 @@ rooted-is mode n w steps q r kept x h e l p d =
       below = le-trans (le-of-eq p) (le-trans (move-le mode false q _ _) l);
       exact-is = d ∙ same-eqb (r * 2) 0 (q * q) n (exact-from q r n (g .sum)) (exact-to q r n (g .sum)) ∙ ap (λ (z : ℕ). eqb (z * z) n) (sym (whole-root n q r g));
     }
+
+-- The square of a root of q * q + rest is all of it where the rest is what i steps from q to the root take.
+pub steps-exact : (mode : Rounding) (q rest i : ℕ) → q + i ≡ rootCut mode (q * q + rest) 1 → eqb (i * (2 * q + i)) rest ≡ eqb (isqrt (q * q + rest) * isqrt (q * q + rest)) (q * q + rest)
+steps-exact mode q rest i e = same-eqb (i * (2 * q + i)) rest (isqrt n * isqrt n) n to from
+  where
+    n : ℕ
+    n = q * q + rest
+
+    whole : (q rest i : ℕ) → i * (2 * q + i) ≡ rest → (q + i) * (q + i) + 0 ≡ q * q + rest
+    whole q rest i h = omega arith
+
+    square : (z : ℕ) → z * z + 0 ≡ z * z
+    square z = omega arith
+
+    to : i * (2 * q + i) ≡ rest → isqrt n * isqrt n ≡ n
+    to h = ap (λ (z : ℕ). z * z) (whole-root n (q + i) 0 (record { sum = whole q rest i h; least = zero-le })) ∙ sym (square (q + i)) ∙ whole q rest i h
+
+    -- an exact root is that of every mode
+    alike : (mode : Rounding) (z : ℕ) → z * z ≡ n → rootCut mode n 1 ≡ z
+    alike mode z h = sym (rounds mode n z 0 (record { sum = square z ∙ h; least = zero-le })) ∙ ap (λ (o : Ordering). move mode false z o true) (compare-is Ordering·lt (0 * 2 * 2) (z * 4 + 1) (some z)) ∙ kept mode z
+      where
+        some : (z : ℕ) → 0 * 2 * 2 < z * 4 + 1
+        some z = omega arith
+
+        kept : (mode : Rounding) (z : ℕ) → move mode false z Ordering·lt true ≡ z
+        kept Nearest z = refl
+        kept Up z = refl
+        kept Down z = refl
+        kept Zero z = refl
+
+    rest-is : (q rest i z : ℕ) → q + i ≡ z → z * z ≡ q * q + rest → i * (2 * q + i) ≡ rest
+    rest-is q rest i z d h = go (subst (λ (z : ℕ). z * z ≡ q * q + rest) (sym d) h)
+      where
+        go : (q + i) * (q + i) ≡ q * q + rest → i * (2 * q + i) ≡ rest
+        go h = omega arith
+
+    from : isqrt n * isqrt n ≡ n → i * (2 * q + i) ≡ rest
+    from h = rest-is q rest i (isqrt n) (e ∙ alike mode (isqrt n) h) h
 
 -- the number at the top of 64 bits
 pub at-top : (m e : ℕ) → m < 2 ^ 53 → m * 2 ^ (e % 2 + 10) % 2 ^ 64 ≡ m * 2 ^ (e % 2 + 10)

@@ -8,15 +8,16 @@ use native.Mathlib.Decide.{decLe, decLt}
 use native.Mathlib.Omega.{arith}
 use native.Mathlib.Numerals.{add-one}
 use lib.Dec.{leb, ltb, eqb, lit<}
-use lib.Ieee.{Format, binary32, binary64, prec, hid, ones, top, ofBits, toBits, nearest}
+use lib.Ieee.{Format, binary32, binary64, prec, hid, ones, top, ofBits, nearest}
 use borrow.Author.Tests.{lt-ltb, le-ltb, ltb-true, leb-true, eq-eqb, ne-eqb}
 use Rattle.rounding.specs.Rounding.{roundingOf}
 use Rattle.rounding.specs.declared.rounding.Rounding.{Rounding}
 use Rattle.rounding.specs.declared.rounding.Rounding.the-variants.{Nearest, Up, Down, Zero}
-use Rattle.roots.specs.Root.{rootCut, sqrtOf, radicand, IsRoot, IsRoundedRoot, IsEstimate}
+use Rattle.exceptions.specs.Exceptions.{inexact}
+use Rattle.roots.specs.Root.{isqrt, rootCut, radicand, IsRoot, IsRooted, IsSqrt, IsEstimate}
 use Rattle.rounding.proofs.Order.{compare-is}
 use Rattle.rounding.proofs.Cutting.{mode-up, mode-down, mode-zero}
-use Rattle.roots.proofs.RootDigits.{rounds}
+use Rattle.roots.proofs.RootDigits.{rounds, steps-exact}
 use Rattle.roots.proofs.Sqrt.{base, rise, shift, root-mid}
 
 -- ---- the nearest whole number, by what is left of q's square
@@ -89,19 +90,19 @@ module _ (q rest : ℕ) where
       go (yes k) = high (q * q + rest) (q + 1) (rest - (2 * q + 1)) (once (past l .0)) (past l .1) (small k) ∙ same
       go (no k) = low (q * q + rest) (q + 2) (rest - (4 * q + 4)) (twice (lt-of-not-le k)) (least m)
 
-  pub near-is : (a b : ℕ) → rest ≤ 5 * q + 6 → a ≡ cond (ltb q rest) 1 0 → b ≡ cond (ltb (3 * q + 2) rest) 1 0 → q + a + b ≡ rootCut Nearest (q * q + rest) 1
+  pub near-is : (a b : ℕ) → rest ≤ 5 * q + 6 → a ≡ cond (ltb q rest) 1 0 → b ≡ cond (ltb (3 * q + 2) rest) 1 0 → q + (a + b) ≡ rootCut Nearest (q * q + rest) 1
   near-is a b h p d = go (bit-is a q rest p) (bit-is b (3 * q + 2) rest d)
     where
-      sums : (c : ℕ) → a + b ≡ c → q + a + b ≡ q + c
+      sums : (c : ℕ) → a + b ≡ c → q + (a + b) ≡ q + c
       sums c e = omega arith
 
       never : rest ≤ q → 3 * q + 2 < rest → ⊥
       never l m = omega arith
 
-      none : a ≡ 0 → b ≡ 0 → q + a + b ≡ q
+      none : a ≡ 0 → b ≡ 0 → q + (a + b) ≡ q
       none x y = omega arith
 
-      go : ((q < rest) × (a ≡ 1)) ⊎ ((rest ≤ q) × (a ≡ 0)) → ((3 * q + 2 < rest) × (b ≡ 1)) ⊎ ((rest ≤ 3 * q + 2) × (b ≡ 0)) → q + a + b ≡ rootCut Nearest (q * q + rest) 1
+      go : ((q < rest) × (a ≡ 1)) ⊎ ((rest ≤ q) × (a ≡ 0)) → ((3 * q + 2 < rest) × (b ≡ 1)) ⊎ ((rest ≤ 3 * q + 2) × (b ≡ 0)) → q + (a + b) ≡ rootCut Nearest (q * q + rest) 1
       go (inr u) (inr v) = none (u .1) (v .1) ∙ sym (at-q (u .0))
       go (inr u) (inl v) = absurd (never (u .0) (v .0))
       go (inl u) (inr v) = sums 1 (omega arith) ∙ sym (next (u .0) (v .0))
@@ -140,6 +141,11 @@ module _ (q rest : ℕ) where
       go (inr u) (inl v) = absurd (never (u .0) (v .0))
       go (inl u) (inr v) = subst Stepped (sums a b 1 0 (u .1) (v .1)) (one (u .0) (v .0))
       go (inl u) (inl v) = subst Stepped (sums a b 1 1 (u .1) (v .1)) (two (v .0) h)
+
+  -- whether nothing is left after the steps
+  pub down-exact : (a b : ℕ) → rest ≤ 5 * q + 6 → a ≡ cond (ltb (2 * q) rest) 1 0 → b ≡ cond (ltb (4 * q + 3) rest) 1 0
+      → eqb (used (a + b)) rest ≡ eqb (isqrt (q * q + rest) * isqrt (q * q + rest)) (q * q + rest)
+  down-exact a b h p d = steps-exact Zero q rest (a + b) (rounds Zero (q * q + rest) (q + (a + b)) (rest - used (a + b)) (steps-are a b h p d .1))
 
   pub directed-is : (up : Bool) (a b c : ℕ) → rest ≤ 5 * q + 6 → a ≡ cond (ltb (2 * q) rest) 1 0 → b ≡ cond (ltb (4 * q + 3) rest) 1 0
       → c ≡ cond (up && ltb (used (a + b)) rest) 1 0 → q + (a + b) + c ≡ rootCut (cond up Up Zero) (q * q + rest) 1
@@ -208,9 +214,13 @@ by-mode control n h = go (decLt (control / 2 ^ 22 % 4) 2) (decLt (control / 2 ^ 
     go (no k) (no l) = at false Zero (ne-eqb mode 1 (later mode k)) (mode-zero control (some mode h) (later mode k) (last mode l)) refl
 
 -- of an estimate that is near
-pub found : (mode : Rounding) (n most q rest r : ℕ) (near : Bool) → IsEstimate n most q rest near → near ≡ true → IsRoundedRoot mode (q * q + rest) (q + 3) r
-    → (r ≡ rootCut mode n 1) × (r ≤ most + 2)
-found mode n most q rest r near e t p = (p .is ∙ ap (λ (z : ℕ). rootCut mode z 1) (e .sum t), le-trans (p .below) (three q most (e .below t)))
+pub found : (mode : Rounding) (n most q rest r : ℕ) (near x : Bool) → IsEstimate n most q rest near → near ≡ true → IsRooted mode (q * q + rest) (q + 3) r x
+    → (r ≡ rootCut mode n 1) × (r ≤ most + 2) × (x ≡ eqb (isqrt n * isqrt n) n)
+found mode n most q rest r near x e t p = (
+  p .kept-is ∙ ap (λ (z : ℕ). rootCut mode z 1) (e .sum t),
+  le-trans (p .below) (three q most (e .below t)),
+  p .exact-is ∙ ap (λ (z : ℕ). eqb (isqrt z * isqrt z) z) (e .sum t),
+)
   where
     three : (q m : ℕ) → q < m → q + 3 ≤ m + 2
     three q m l = omega arith
@@ -360,8 +370,10 @@ normal binary32 b h l = (omega arith, λ e. omega arith, λ e. omega arith)
 normal binary64 b h l = (omega arith, λ e. omega arith, λ e. omega arith)
 
 -- a normal value's word
-pub near-word : (mode : Rounding) (f : Format) (b y n kept r : ℕ) → hid f ≤ b → b < ones f * hid f → y ≡ b % (2 * hid f) * 2 ^ rise f → n ≡ radicand y * 2 ^ 10 * 2 ^ (prec f + prec f) / 2 ^ 64
-    → kept ≡ rootCut mode n 1 → r ≡ ((b % top f / hid f + shift f) / 2 + base f) * hid f + kept → r ≡ toBits f (sqrtOf mode f (ofBits f b))
-near-word mode f b y n kept r h l e d k w =
+pub near-word : (mode : Rounding) (f : Format) (b y n kept r raised : ℕ) (x : Bool) → hid f ≤ b → b < ones f * hid f → y ≡ b % (2 * hid f) * 2 ^ rise f → n ≡ radicand y * 2 ^ 10 * 2 ^ (prec f + prec f) / 2 ^ 64
+    → kept ≡ rootCut mode n 1 → x ≡ eqb (isqrt n * isqrt n) n → r ≡ ((b % top f / hid f + shift f) / 2 + base f) * hid f + kept → raised ≡ cond x 0 inexact → IsSqrt mode f (ofBits f b) r raised
+near-word mode f b y n kept r raised x h l e d k t w g =
     let u = normal f b h l in
-    w ∙ root-mid mode f b (digits f b) kept (u .0) (u .1) (u .2) refl (k ∙ ap (λ (z : ℕ). rootCut mode z 1) (d ∙ ap (λ (z : ℕ). z * 2 ^ (prec f + prec f) / 2 ^ 64) (placed f b y l e)))
+    let same = d ∙ ap (λ (z : ℕ). z * 2 ^ (prec f + prec f) / 2 ^ 64) (placed f b y l e) in
+    let is = root-mid mode f b (digits f b) kept x (u .0) (u .1) (u .2) refl (k ∙ ap (λ (z : ℕ). rootCut mode z 1) same, t ∙ ap (λ (z : ℕ). eqb (isqrt z * isqrt z) z) same) in
+    record { bits-are = w ∙ is .bits-are; raised-is = g ∙ is .raised-is }

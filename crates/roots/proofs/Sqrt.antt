@@ -1,46 +1,57 @@
 -- The square root of a pattern by its fields. Over the mode and the format. Assumes nothing.
 use mathlib.Core.Path.{_≡_, refl, sym, ap, _∙_, subst}
 use mathlib.Core.Logic.{inl, inr}
-use mathlib.Core.Bool.{Bool, true, false, not, cond}
+use mathlib.Core.Bool.{Bool, true, false, not, _&&_, cond}
 use Prim.Native.Nat.{ℕ, zero, suc, _+_, _-_, _*_, _/_, _%_, _^_, _≤_, _<_}
 use native.Mathlib.Nat.{le-trans, le-of-eq, lt-of-lt-of-le, zero-mul, zero-add, mul-assoc, mul-comm, mul-pos, mul-le-mul-right, mul-lt-mul-of-pos-right, lt-of-mul-lt-mul-right, le-of-mul-le-mul-right, mul-div-cancel, mod-lt, eq-or-lt-of-le, eq-zero-or-pos, min-eq-left, not-le-of-lt, div-add-mod', mod-mod-of-dvd, dvd-mul-right, add-assoc, add-mul, div-one, mod-eq-of-lt, lt-of-not-le}
 use native.Mathlib.Omega.{arith}
 use lib.IntN.{pos}
-use lib.Dec.{T, leb, lit≤, lit<, le→leb}
+use lib.Dec.{T, leb, eqb, lit≤, lit<, le→leb}
+use borrow.Author.Tests.{eq-eqb, eqb-true, not-false}
 use lib.Arith.{lt→nleb}
 use lib.Pow.{pow-add, pow-pos, pow-mono, shl-lt}
-use lib.Ieee.{Float, nan, inf, fin, Format, binary32, binary64, prec, low, up, down, hid, ones, top, ofBits, toBits, isNan}
+use lib.Ieee.{Float, nan, inf, fin, Format, binary32, binary64, prec, low, up, down, hid, ones, top, ofBits, toBits, isNan, nanBits}
 use lib.Ieee.Fits.{down-pos}
 use lib.Ieee.Bits.{is-true, is-false, toBits-ofBits}
 use lib.Ieee.Exact.{HasValue}
 use Rattle.rounding.specs.declared.rounding.Rounding.{Rounding}
 use Rattle.packing.specs.Pack.{ceiling}
-use Rattle.roots.specs.Root.{isqrt, rootCut, rootOf, sqrtOf}
+use Rattle.exceptions.specs.Exceptions.{invalid, inexact}
+use Rattle.roots.specs.Root.{isqrt, rootCut, rootOf, sqrtOf, exactRoot, sqrtExceptions, IsRooted, IsSqrt}
 use Rattle.rounding.specs.Lift.{Lifted}
 use Rattle.floats.proofs.Units.{prec-pos, slide, twice-hid, hid-pos, reads-low, reads-mid, reads-inf, reads-zero, reads-normal, field-le}
 use Rattle.floats.proofs.Patterns.{nan-of-fields}
 use Rattle.rounding.proofs.Cutting.{move-le}
 use Rattle.packing.proofs.Written.{ceiling-ge}
-use Rattle.roots.proofs.Squares.{isqrt-ge, isqrt-lt, sqrt-bits}
+use Rattle.roots.proofs.Squares.{isqrt-ge, isqrt-lt, sqrt-is}
 
 -- ---- what has no root
 
-negative-value : (mode : Rounding) (f : Format) (v : Float) (a c : ℕ) → HasValue v true a c → 0 < a → sqrtOf mode f v ≡ nan
-unfolding sqrtOf
-negative-value mode f nan a c h p = refl
+-- a value that has no root: it is invalid
+abbrev Rootless : Rounding → Format → Float → Type 0
+Rootless mode f v = (sqrtOf mode f v ≡ nan) × (sqrtExceptions f v ≡ invalid)
+
+negative-value : (mode : Rounding) (f : Format) (v : Float) (a c : ℕ) → HasValue v true a c → 0 < a → Rootless mode f v
+unfolding sqrtOf sqrtExceptions
+negative-value mode f nan a c h p = absurd h
 negative-value mode f (inf t) a c h p = absurd h
 negative-value mode f (fin t zero e) a c h p = absurd (none (a * down e) (mul-pos p (down-pos e)) (sym (h .1) ∙ ap (λ (y : ℕ). y * c) (zero-mul (up e)) ∙ zero-mul c))
   where
     none : (y : ℕ) → 0 < y → y ≡ 0 → ⊥
     none y p z = omega arith
-negative-value mode f (fin t (suc m) e) a c h p = ap (λ (b : Bool). cond b nan (rootOf mode f (suc m * up e) (down e))) (h .0)
+negative-value mode f (fin t (suc m) e) a c h p = (ap (λ (b : Bool). cond b nan (rootOf mode f (suc m * up e) (down e))) (h .0), ap (λ (b : Bool). cond b invalid (cond (exactRoot f (suc m * up e) (down e)) 0 inexact)) (h .0))
 
 split : (f : Format) (b : ℕ) → b % top f / hid f * hid f + b % hid f ≡ b % top f
 split f b = ap (λ (y : ℕ). b % top f / hid f * hid f + y) (sym (mod-mod-of-dvd (hid f) b (dvd-mul-right (hid f) (suc (ones f))))) ∙ div-add-mod' (b % top f) (hid f)
 
-pub sqrt-negative : (mode : Rounding) (f : Format) (b : ℕ) → 0 < b % top f → top f ≤ b → sqrtOf mode f (ofBits f b) ≡ nan
-unfolding sqrtOf
-sqrt-negative mode f b p n = go (b % top f / hid f) refl (field-le f b)
+-- an infinity's digits are 0 where the word is no NaN's
+no-digits : (f : Format) (b : ℕ) → nanBits f b ≡ false → b % top f / hid f ≡ ones f → b % hid f ≡ 0
+unfolding nanBits
+no-digits f b n e = eqb-true (b % hid f) 0 (not-false (eqb (b % hid f) 0) (sym (ap (λ (t : Bool). t && not (eqb (b % hid f) 0)) (eq-eqb (b % top f / hid f) (ones f) e)) ∙ n))
+
+negative-root : (mode : Rounding) (f : Format) (b : ℕ) → nanBits f b ≡ false → 0 < b % top f → top f ≤ b → Rootless mode f (ofBits f b)
+unfolding sqrtOf sqrtExceptions
+negative-root mode f b number p n = go (b % top f / hid f) refl (field-le f b)
   where
     neg : leb (top f) b ≡ true
     neg = is-true (leb (top f) b) (le→leb (top f) b n)
@@ -51,21 +62,15 @@ sqrt-negative mode f b p n = go (b % top f / hid f) refl (field-le f b)
         go' : (t : ℕ) → t ≡ s → 0 < t
         go' t e = omega arith
 
-    at-inf : b % top f / hid f ≡ ones f → sqrtOf mode f (ofBits f b) ≡ nan
-    at-inf e = elim (eq-zero-or-pos (b % hid f)) [
-      | inl z ↦ ap (sqrtOf mode f) (reads-inf f b e z) ∙ ap (λ (s : Bool). cond s nan (inf s)) neg
-      | inr g ↦ ap (sqrtOf mode f) (nan-of-fields f b e (λ z. no (b % hid f) g z))
-    ]
-      where
-        no : (y : ℕ) → 0 < y → y ≡ 0 → ⊥
-        no y p z = omega arith
+    infinite : ofBits f b ≡ inf (leb (top f) b) → Rootless mode f (ofBits f b)
+    infinite e = (ap (sqrtOf mode f) e ∙ ap (λ (s : Bool). cond s nan (inf s)) neg, ap (sqrtExceptions f) e ∙ ap (λ (s : Bool). cond s invalid 0) neg)
 
-    go : (x : ℕ) → b % top f / hid f ≡ x → x ≤ ones f → sqrtOf mode f (ofBits f b) ≡ nan
+    go : (x : ℕ) → b % top f / hid f ≡ x → x ≤ ones f → Rootless mode f (ofBits f b)
     go zero e l =
         negative-value mode f (ofBits f b) (b % hid f * 2 ^ 0) (2 ^ low f) (subst (λ (s : Bool). HasValue (ofBits f b) s (b % hid f * 2 ^ 0) (2 ^ low f)) neg (reads-low f b e))
         (mul-pos (rest (b % top f / hid f) (hid f) (b % hid f) (b % top f) (split f b) e p) (pow-pos 0))
     go (suc x) e l = elim (eq-or-lt-of-le l) [
-      | inl o ↦ at-inf (e ∙ o)
+      | inl o ↦ infinite (reads-inf f b (e ∙ o) (no-digits f b number (e ∙ o)))
       | inr g ↦
           negative-value mode f (ofBits f b) ((hid f + b % hid f) * 2 ^ x) (2 ^ low f) (subst (λ (s : Bool). HasValue (ofBits f b) s ((hid f + b % hid f) * 2 ^ x) (2 ^ low f)) neg (reads-mid f b x e g))
           (mul-pos (some (hid f) (b % hid f) (hid-pos f)) (pow-pos x))
@@ -74,25 +79,30 @@ sqrt-negative mode f b p n = go (b % top f / hid f) refl (field-le f b)
         some : (h t : ℕ) → 0 < h → 0 < h + t
         some h t p = omega arith
 
-pub root-nan : (mode : Rounding) (f : Format) (b : ℕ) → sqrtOf mode f (ofBits f b) ≡ nan → ones f * hid f + hid f / 2 ≡ toBits f (sqrtOf mode f (ofBits f b))
+pub sqrt-negative : (mode : Rounding) (f : Format) (b : ℕ) → nanBits f b ≡ false → 0 < b % top f → top f ≤ b → IsSqrt mode f (ofBits f b) (ones f * hid f + hid f / 2) invalid
 unfolding toBits
-root-nan mode f b e = sym (ap (toBits f) e)
+sqrt-negative mode f b number p n = let r = negative-root mode f b number p n in record { bits-are = sym (ap (toBits f) (r .0)); raised-is = sym (r .1) }
 
-pub sqrt-of-nan : (mode : Rounding) (f : Format) (b : ℕ) → b % top f / hid f ≡ ones f → (b % hid f ≡ 0 → ⊥) → sqrtOf mode f (ofBits f b) ≡ nan
-unfolding sqrtOf
-sqrt-of-nan mode f b x t = ap (sqrtOf mode f) (nan-of-fields f b x t)
+pub sqrt-of-inf : (mode : Rounding) (f : Format) (b : ℕ) → nanBits f b ≡ false → b < top f → b % top f / hid f ≡ ones f → IsSqrt mode f (ofBits f b) (ones f * hid f) 0
+unfolding sqrtOf sqrtExceptions toBits
+sqrt-of-inf mode f b number h x =
+    let e : ofBits f b ≡ inf false = reads-inf f b x (no-digits f b number x) ∙ ap inf (is-false (leb (top f) b) (lt→nleb (top f) b h)) in
+    record {
+      bits-are = sym (zero-add (ones f * hid f)) ∙ sym (ap (λ (v : Float). toBits f (sqrtOf mode f v)) e);
+      raised-is = sym (ap (sqrtExceptions f) e);
+    }
 
-pub sqrt-of-inf : (mode : Rounding) (f : Format) (b : ℕ) → b < top f → b % top f / hid f ≡ ones f → b % hid f ≡ 0 → ones f * hid f ≡ toBits f (sqrtOf mode f (ofBits f b))
-unfolding sqrtOf toBits
-sqrt-of-inf mode f b h x t =
-    sym (zero-add (ones f * hid f))
-    ∙ sym (ap (λ (v : Float). toBits f (sqrtOf mode f v)) (reads-inf f b x t ∙ ap inf (is-false (leb (top f) b) (lt→nleb (top f) b h))))
-
-pub sqrt-of-zero : (mode : Rounding) (f : Format) (b : ℕ) → b < 2 * top f → b % top f ≡ 0 → b ≡ toBits f (sqrtOf mode f (ofBits f b))
-unfolding sqrtOf isNan
+pub sqrt-of-zero : (mode : Rounding) (f : Format) (b : ℕ) → b < 2 * top f → b % top f ≡ 0 → IsSqrt mode f (ofBits f b) b 0
+unfolding sqrtOf sqrtExceptions isNan
 sqrt-of-zero mode f b h z =
     let e : ofBits f b ≡ fin (leb (top f) b) 0 (pos 0) = reads-zero f b z in
-    sym (ap (toBits f) (ap (sqrtOf mode f) e ∙ sym e) ∙ toBits-ofBits f b h (subst (λ (v : Float). T (not (isNan v))) (sym e) tt))
+    record {
+      bits-are = sym (ap (toBits f) (ap (sqrtOf mode f) e ∙ sym e) ∙ toBits-ofBits f b h (subst (λ (v : Float). T (not (isNan v))) (sym e) tt));
+      raised-is = sym (ap (sqrtExceptions f) e);
+    }
+
+pub raised-as : (mode : Rounding) (f : Format) (v : Float) (bits raised x : ℕ) → raised ≡ x → IsSqrt mode f v bits x → IsSqrt mode f v bits raised
+raised-as mode f v bits raised x e p = record { bits-are = p .bits-are; raised-is = e ∙ p .raised-is }
 
 -- ---- the root of D * 2 ^ X of the smallest values. Its digits at the top of 53 places are m = D * 2 ^ r
 
@@ -159,24 +169,30 @@ module _ (f : Format) (D X r e j k m : ℕ) (m-is : m ≡ D * 2 ^ r) (least : 2 
       ∙ mul-assoc A (2 ^ (k + k)) (2 ^ low f)
       ∙ ap (λ (x : ℕ). A * x) (mul-comm (2 ^ (k + k)) (2 ^ low f))
 
-  pub root-value : (mode : Rounding) (v : Float) → HasValue v false (D * 2 ^ X) (2 ^ low f) → k + 3 ≤ ones f
-      → k * hid f + rootCut mode A 1 ≡ toBits f (sqrtOf mode f v)
-  root-value mode v h room =
-      sym (zero-add (k * hid f + rootCut mode A 1))
-      ∙ ap (λ (x : ℕ). 0 + x) (sym (min-eq-left (before (k * hid f + rootCut mode A 1) (ones f * hid f) (ceiling mode f false) finite (ceiling-ge mode f false))))
-      ∙ sym (sqrt-bits mode f v (D * 2 ^ X) (2 ^ low f) k A h (pow-pos (low f)) (mul-pos D-pos (pow-pos X)) scale root-under (inr (isqrt-ge A (hid f) high)))
+  pub root-value : (mode : Rounding) (v : Float) (kept : ℕ) (x : Bool) → HasValue v false (D * 2 ^ X) (2 ^ low f) → k + 3 ≤ ones f → (kept ≡ rootCut mode A 1) × (x ≡ eqb (isqrt A * isqrt A) A)
+      → IsSqrt mode f v (k * hid f + kept) (cond x 0 inexact)
+  root-value mode v kept x h room p =
+      let r = sqrt-is mode f v (D * 2 ^ X) (2 ^ low f) k A h (pow-pos (low f)) (mul-pos D-pos (pow-pos X)) scale root-under (inr (isqrt-ge A (hid f) high)) in
+      record {
+        bits-are =
+            ap (λ (z : ℕ). k * hid f + z) (p .0)
+            ∙ sym (zero-add (k * hid f + rootCut mode A 1))
+            ∙ ap (λ (x : ℕ). 0 + x) (sym (min-eq-left (before (k * hid f + rootCut mode A 1) (ones f * hid f) (ceiling mode f false) finite (ceiling-ge mode f false))))
+            ∙ sym (r .0);
+        raised-is = ap (λ (b : Bool). cond b 0 inexact) (p .1) ∙ sym (r .1);
+      }
     where
       before : (x y z : ℕ) → x < y → y - 1 ≤ z → x ≤ z
       before x y z a b = omega arith
 
-      kept : rootCut mode A 1 ≤ 2 ^ prec f
-      kept = le-trans (move-le mode false (isqrt (A / 1)) _ _) (subst (λ (x : ℕ). isqrt x < 2 ^ prec f) (sym (div-one A)) root-under)
+      most : rootCut mode A 1 ≤ 2 ^ prec f
+      most = le-trans (move-le mode false (isqrt (A / 1)) _ _) (subst (λ (x : ℕ). isqrt x < 2 ^ prec f) (sym (div-one A)) root-under)
 
       add-up : (kh h c w oh : ℕ) → kh + 3 * h ≤ oh → c ≤ w → w ≡ 2 * h → 0 < h → kh + c < oh
       add-up kh h c w oh a b e p = omega arith
 
       finite : k * hid f + rootCut mode A 1 < ones f * hid f
-      finite = add-up (k * hid f) (hid f) (rootCut mode A 1) (2 ^ prec f) (ones f * hid f) (le-trans (le-of-eq (sym (add-mul k 3 (hid f)))) (mul-le-mul-right (hid f) room)) kept (twice-hid f) (hid-pos f)
+      finite = add-up (k * hid f) (hid f) (rootCut mode A 1) (2 ^ prec f) (ones f * hid f) (le-trans (le-of-eq (sym (add-mul k 3 (hid f)))) (mul-le-mul-right (hid f) room)) most (twice-hid f) (hid-pos f)
 
   pub root-kept : (mode : Rounding) → rootCut mode A 1 ≤ 2 ^ prec f
   root-kept mode = le-trans (move-le mode false (isqrt (A / 1)) _ _) (subst (λ (x : ℕ). isqrt x < 2 ^ prec f) (sym (div-one A)) root-under)
@@ -203,13 +219,17 @@ roomy : (f : Format) (X r e : ℕ) → e + r ≡ X + start f → suc X < ones f 
 roomy binary32 X r e d h = omega arith
 roomy binary64 X r e d h = omega arith
 
+-- the digits of the root of m * 2 ^ (e % 2), and whether nothing is left
+abbrev pub Found : Rounding → Format → ℕ → ℕ → ℕ → Bool → Type 0
+Found mode f m e kept x =
+    let A = m * 2 ^ (e % 2 + 10) * 2 ^ (prec f + prec f) / 2 ^ 64 in
+    (kept ≡ rootCut mode A 1) × (x ≡ eqb (isqrt A * isqrt A) A)
+
 -- the root of D * 2 ^ X smallest values, from m, its digits moved up by r
-root-at : (mode : Rounding) (f : Format) (v : Float) (D X r e m kept : ℕ) → HasValue v false (D * 2 ^ X) (2 ^ low f) → m ≡ D * 2 ^ r → 2 ^ 52 ≤ m → m < 2 ^ 53
-    → e + r ≡ X + start f → 54 ≤ r + (prec f + prec f) → suc X < ones f → kept ≡ rootCut mode (m * 2 ^ (e % 2 + 10) * 2 ^ (prec f + prec f) / 2 ^ 64) 1
-    → (e / 2 + base f) * hid f + kept ≡ toBits f (sqrtOf mode f v)
-root-at mode f v D X r e m kept h p l b d q x k =
-    ap (λ (z : ℕ). (e / 2 + base f) * hid f + z) k
-    ∙ root-value f D X r e (r + e % 2 + (prec f + prec f) - 54) (e / 2 + base f) m p l b (made-up f r e q) (halves f X r e d q) mode v h (roomy f X r e d x)
+root-at : (mode : Rounding) (f : Format) (v : Float) (D X r e m kept : ℕ) (x : Bool) → HasValue v false (D * 2 ^ X) (2 ^ low f) → m ≡ D * 2 ^ r → 2 ^ 52 ≤ m → m < 2 ^ 53
+    → e + r ≡ X + start f → 54 ≤ r + (prec f + prec f) → suc X < ones f → Found mode f m e kept x → IsSqrt mode f v ((e / 2 + base f) * hid f + kept) (cond x 0 inexact)
+root-at mode f v D X r e m kept x h p l b d q u k =
+    root-value f D X r e (r + e % 2 + (prec f + prec f) - 54) (e / 2 + base f) m p l b (made-up f r e q) (halves f X r e d q) mode v kept x h (roomy f X r e d u) k
 
 positive : (f : Format) (b a c : ℕ) → b < top f → HasValue (ofBits f b) (leb (top f) b) a c → HasValue (ofBits f b) false a c
 positive f b a c h v = subst (λ (s : Bool). HasValue (ofBits f b) s a c) (is-false (leb (top f) b) (lt→nleb (top f) b h)) v
@@ -223,13 +243,12 @@ far f t r h l =
     count : (p r : ℕ) → 0 < p → 52 < p - 1 + r → 54 ≤ r + (p + p)
     count p r h l = omega arith
 
-pub root-low : (mode : Rounding) (f : Format) (b r kept : ℕ) → b < top f → b % top f / hid f ≡ 0 → Lifted (b % hid f) r
-    → kept ≡ rootCut mode (b % hid f * 2 ^ r % 2 ^ 64 * 2 ^ ((start f - r) % 2 + 10) * 2 ^ (prec f + prec f) / 2 ^ 64) 1
-    → ((start f - r) / 2 + base f) * hid f + kept ≡ toBits f (sqrtOf mode f (ofBits f b))
-root-low mode f b r kept h x l k =
+pub root-low : (mode : Rounding) (f : Format) (b r kept : ℕ) (x : Bool) → b < top f → b % top f / hid f ≡ 0 → Lifted (b % hid f) r → Found mode f (b % hid f * 2 ^ r % 2 ^ 64) (start f - r) kept x
+    → IsSqrt mode f (ofBits f b) (((start f - r) / 2 + base f) * hid f + kept) (cond x 0 inexact)
+root-low mode f b r kept x h z l k =
     let t = b % hid f in
     let e : t * 2 ^ r % 2 ^ 64 ≡ t * 2 ^ r = mod-eq-of-lt (lt-of-lt-of-le (l .below) (lit≤ tt)) in
-    root-at mode f (ofBits f b) t 0 r (start f - r) (t * 2 ^ r % 2 ^ 64) kept (positive f b (t * 2 ^ 0) (2 ^ low f) h (reads-low f b x)) e
+    root-at mode f (ofBits f b) t 0 r (start f - r) (t * 2 ^ r % 2 ^ 64) kept x (positive f b (t * 2 ^ 0) (2 ^ low f) h (reads-low f b z)) e
     (subst (λ (z : ℕ). 2 ^ 52 ≤ z) (sym e) (l .least))
     (subst (λ (z : ℕ). z < 2 ^ 53) (sym e) (l .below))
     (counted (low f % 2) r (l .most)) (far f t r (mod-lt b (hid-pos f)) l) (some f) k
@@ -248,12 +267,11 @@ rise f = 53 - prec f
 abbrev pub shift : Format → ℕ
 shift f = start f - 1 - rise f
 
-pub root-mid : (mode : Rounding) (f : Format) (b m kept : ℕ) → b < top f → (b % top f / hid f ≡ 0 → ⊥) → (b % top f / hid f ≡ ones f → ⊥) → m ≡ (hid f + b % hid f) * 2 ^ rise f
-    → kept ≡ rootCut mode (m * 2 ^ ((b % top f / hid f + shift f) % 2 + 10) * 2 ^ (prec f + prec f) / 2 ^ 64) 1
-    → ((b % top f / hid f + shift f) / 2 + base f) * hid f + kept ≡ toBits f (sqrtOf mode f (ofBits f b))
-root-mid mode f b m kept h n o d k =
+pub root-mid : (mode : Rounding) (f : Format) (b m kept : ℕ) (x : Bool) → b < top f → (b % top f / hid f ≡ 0 → ⊥) → (b % top f / hid f ≡ ones f → ⊥) → m ≡ (hid f + b % hid f) * 2 ^ rise f
+    → Found mode f m (b % top f / hid f + shift f) kept x → IsSqrt mode f (ofBits f b) (((b % top f / hid f + shift f) / 2 + base f) * hid f + kept) (cond x 0 inexact)
+root-mid mode f b m kept y h n o d k =
     let x = b % top f / hid f in
-    root-at mode f (ofBits f b) (hid f + b % hid f) (x - 1) (rise f) (x + shift f) m kept
+    root-at mode f (ofBits f b) (hid f + b % hid f) (x - 1) (rise f) (x + shift f) m kept y
     (positive f b ((hid f + b % hid f) * 2 ^ (x - 1)) (2 ^ low f) h (reads-normal f b n o)) d
     (subst (λ (z : ℕ). 2 ^ 52 ≤ z) (sym d) (le-trans (first f) (mul-le-mul-right (2 ^ rise f) (grow (hid f) (b % hid f)))))
     (subst (λ (z : ℕ). z < 2 ^ 53) (sym d) (lt-of-lt-of-le (mul-lt-mul-of-pos-right (below-twice (hid f) (b % hid f) (mod-lt b (hid-pos f))) (pow-pos (rise f))) (last f)))

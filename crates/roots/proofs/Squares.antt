@@ -14,7 +14,8 @@ use lib.Ieee.Exact.{HasValue}
 use Rattle.rounding.specs.declared.rounding.Rounding.{Rounding}
 use Rattle.rounding.specs.Rounding.{move, settled, dropped}
 use Rattle.packing.specs.Pack.{packed}
-use Rattle.roots.specs.Root.{rootIn, isqrt, rootCut, rootOf, sqrtOf}
+use Rattle.exceptions.specs.Exceptions.{invalid, inexact}
+use Rattle.roots.specs.Root.{rootIn, isqrt, rootCut, rootOf, sqrtOf, exactRoot, sqrtExceptions}
 use Rattle.floats.proofs.Units.{Lead, drop-is}
 use Rattle.rounding.proofs.Cutting.{move-ge, move-le}
 use Rattle.packing.proofs.Written.{settled-bits}
@@ -101,47 +102,68 @@ root-same mode n u U =
 
 -- ---- what is written. A is the square of the root in units of the last kept digit
 
-pub root-bits : (mode : Rounding) (f : Format) (num den k A : ℕ) → 0 < den → num * 2 ^ (low f + low f) ≡ A * (den * 2 ^ (k + k)) → isqrt A < 2 ^ prec f → Lead f k (isqrt A)
-    → toBits f (rootOf mode f num den) ≡ packed mode f false k (rootCut mode A 1)
-unfolding rootOf
-root-bits mode f num den k A D e small lead =
-    let n = num * 2 ^ (low f + low f) in
-    let u = den * 2 ^ (k + k) in
-    let whole : n / den ≡ A * (2 ^ k * 2 ^ k) =
-    ap (λ (x : ℕ). x / den) (e ∙ ap (λ (x : ℕ). A * x) (mul-comm den (2 ^ (k + k))) ∙ sym (mul-assoc A (2 ^ (k + k)) den)) ∙ mul-div-cancel (A * 2 ^ (k + k)) D ∙ ap (λ (x : ℕ). A * x) (pow-add 2 k k) in
-    let cut : isqrt (n / den) / 2 ^ k ≡ isqrt A = ap (λ (x : ℕ). isqrt x / 2 ^ k) whole ∙ root-cut A (2 ^ k) (pow-pos k) in
-    let d : dropped f (isqrt (n / den)) ≡ k = drop-is f (isqrt (n / den)) k (subst (λ (x : ℕ). x < 2 ^ prec f) (sym cut) small) (subst (λ (x : ℕ). Lead f k x) (sym cut) lead) in
-    let q : isqrt (A / 1) ≡ isqrt A = ap isqrt (div-one A) in
-    let o = compare (4 * A) ((2 * isqrt (A / 1) + 1) * (2 * isqrt (A / 1) + 1) * 1) in
-    let x = eqb (isqrt (A / 1) * isqrt (A / 1) * 1) A in
-    ap (λ (x : ℕ). toBits f (settled mode f false (rootCut mode n (den * 2 ^ (x + x))) x)) d
-    ∙ ap (λ (x : ℕ). toBits f (settled mode f false (rootCut mode x u) k)) e
-    ∙ ap (λ (x : ℕ). toBits f (settled mode f false x k)) (root-same mode A u (mul-pos D (pow-pos (k + k))))
-    ∙ settled-bits mode f false (rootCut mode A 1) k
-    (le-trans (move-le mode false (isqrt (A / 1)) o x) (subst (λ (x : ℕ). x < 2 ^ prec f) (sym q) small))
-    (elim lead [ inl z ↦ inl z | inr h ↦ inr (le-trans (subst (λ (x : ℕ). hid f ≤ x) (sym q) h) (move-ge mode false (isqrt (A / 1)) o x)) ])
+module _ (f : Format) (num den k A : ℕ) (D : 0 < den) (e : num * 2 ^ (low f + low f) ≡ A * (den * 2 ^ (k + k))) (small : isqrt A < 2 ^ prec f) (lead : Lead f k (isqrt A)) where
+  abbrev n : ℕ
+  n = num * 2 ^ (low f + low f)
+
+  abbrev u : ℕ
+  u = den * 2 ^ (k + k)
+
+  u-pos : 0 < u
+  u-pos = mul-pos D (pow-pos (k + k))
+
+  k-is : dropped f (isqrt (n / den)) ≡ k
+  k-is = drop-is f (isqrt (n / den)) k (subst (λ (x : ℕ). x < 2 ^ prec f) (sym cut) small) (subst (λ (x : ℕ). Lead f k x) (sym cut) lead)
+    where
+      whole : n / den ≡ A * (2 ^ k * 2 ^ k)
+      whole = ap (λ (x : ℕ). x / den) (e ∙ ap (λ (x : ℕ). A * x) (mul-comm den (2 ^ (k + k))) ∙ sym (mul-assoc A (2 ^ (k + k)) den)) ∙ mul-div-cancel (A * 2 ^ (k + k)) D ∙ ap (λ (x : ℕ). A * x) (pow-add 2 k k)
+
+      cut : isqrt (n / den) / 2 ^ k ≡ isqrt A
+      cut = ap (λ (x : ℕ). isqrt x / 2 ^ k) whole ∙ root-cut A (2 ^ k) (pow-pos k)
+
+  pub root-bits : (mode : Rounding) → toBits f (rootOf mode f num den) ≡ packed mode f false k (rootCut mode A 1)
+  unfolding rootOf
+  root-bits mode =
+      let q : isqrt (A / 1) ≡ isqrt A = ap isqrt (div-one A) in
+      let o = compare (4 * A) ((2 * isqrt (A / 1) + 1) * (2 * isqrt (A / 1) + 1) * 1) in
+      let x = eqb (isqrt (A / 1) * isqrt (A / 1) * 1) A in
+      ap (λ (x : ℕ). toBits f (settled mode f false (rootCut mode n (den * 2 ^ (x + x))) x)) k-is
+      ∙ ap (λ (x : ℕ). toBits f (settled mode f false (rootCut mode x u) k)) e
+      ∙ ap (λ (x : ℕ). toBits f (settled mode f false x k)) (root-same mode A u u-pos)
+      ∙ settled-bits mode f false (rootCut mode A 1) k
+      (le-trans (move-le mode false (isqrt (A / 1)) o x) (subst (λ (x : ℕ). x < 2 ^ prec f) (sym q) small))
+      (elim lead [ inl z ↦ inl z | inr h ↦ inr (le-trans (subst (λ (x : ℕ). hid f ≤ x) (sym q) h) (move-ge mode false (isqrt (A / 1)) o x)) ])
+
+  pub root-exact : exactRoot f num den ≡ eqb (isqrt A * isqrt A) A
+  unfolding exactRoot
+  root-exact =
+      ap (λ (x : ℕ). eqb (isqrt (n / (den * 2 ^ (x + x))) * isqrt (n / (den * 2 ^ (x + x))) * (den * 2 ^ (x + x))) n) k-is
+      ∙ ap (λ (x : ℕ). eqb (isqrt (x / u) * isqrt (x / u) * u) x) e
+      ∙ ap (λ (x : ℕ). eqb (isqrt x * isqrt x * u) (A * u)) (mul-div-cancel A u-pos)
+      ∙ ap isEq (compare-scale (isqrt A * isqrt A) A u u-pos)
 
 -- of a positive value a / c
-pub sqrt-bits : (mode : Rounding) (f : Format) (v : Float) (a c k A : ℕ) → HasValue v false a c → 0 < c → 0 < a → a * 2 ^ (low f + low f) ≡ A * (c * 2 ^ (k + k)) → isqrt A < 2 ^ prec f → Lead f k (isqrt A)
-    → toBits f (sqrtOf mode f v) ≡ packed mode f false k (rootCut mode A 1)
-unfolding sqrtOf
-sqrt-bits mode f nan a c k A h C P e small lead = absurd h
-sqrt-bits mode f (inf t) a c k A h C P e small lead = absurd h
-sqrt-bits mode f (fin t zero x) a c k A h C P e small lead = absurd (none (a * down x) (mul-pos P (down-pos x)) (sym (h .1) ∙ ap (λ (y : ℕ). y * c) (zero-mul (up x)) ∙ zero-mul c))
+pub sqrt-is : (mode : Rounding) (f : Format) (v : Float) (a c k A : ℕ) → HasValue v false a c → 0 < c → 0 < a → a * 2 ^ (low f + low f) ≡ A * (c * 2 ^ (k + k)) → isqrt A < 2 ^ prec f → Lead f k (isqrt A)
+    → (toBits f (sqrtOf mode f v) ≡ packed mode f false k (rootCut mode A 1)) × (sqrtExceptions f v ≡ cond (eqb (isqrt A * isqrt A) A) 0 inexact)
+unfolding sqrtOf sqrtExceptions
+sqrt-is mode f nan a c k A h C P e small lead = absurd h
+sqrt-is mode f (inf t) a c k A h C P e small lead = absurd h
+sqrt-is mode f (fin t zero x) a c k A h C P e small lead = absurd (none (a * down x) (mul-pos P (down-pos x)) (sym (h .1) ∙ ap (λ (y : ℕ). y * c) (zero-mul (up x)) ∙ zero-mul c))
   where
     none : (y : ℕ) → 0 < y → y ≡ 0 → ⊥
     none y p z = omega arith
-sqrt-bits mode f (fin t (suc m) x) a c k A h C P e small lead =
+sqrt-is mode f (fin t (suc m) x) a c k A h C P e small lead =
     let num = suc m * up x in
     let den = down x in
-    ap (λ (b : Bool). toBits f (cond b nan (rootOf mode f num den))) (h .0)
-    ∙ root-bits mode f num den k A (down-pos x)
-    (eq-of-mul-eq-mul-right c C (num * 2 ^ (low f + low f)) (A * (den * 2 ^ (k + k)))
+    let scaled : num * 2 ^ (low f + low f) ≡ A * (den * 2 ^ (k + k)) =
+    eq-of-mul-eq-mul-right c C (num * 2 ^ (low f + low f)) (A * (den * 2 ^ (k + k)))
     (mul-right-comm num (2 ^ (low f + low f)) c
     ∙ ap (λ (y : ℕ). y * 2 ^ (low f + low f)) (h .1)
     ∙ mul-right-comm a den (2 ^ (low f + low f))
     ∙ ap (λ (y : ℕ). y * den) e
     ∙ mul-assoc A (c * 2 ^ (k + k)) den
     ∙ ap (λ (y : ℕ). A * y) (mul-right-comm c (2 ^ (k + k)) den ∙ mul-assoc c den (2 ^ (k + k)) ∙ mul-comm c (den * 2 ^ (k + k)))
-    ∙ sym (mul-assoc A (den * 2 ^ (k + k)) c)))
-    small lead
+    ∙ sym (mul-assoc A (den * 2 ^ (k + k)) c)) in (
+      ap (λ (b : Bool). toBits f (cond b nan (rootOf mode f num den))) (h .0) ∙ root-bits f num den k A (down-pos x) scaled small lead mode,
+      ap (λ (b : Bool). cond b invalid (cond (exactRoot f num den) 0 inexact)) (h .0) ∙ ap (λ (b : Bool). cond b 0 inexact) (root-exact f num den k A (down-pos x) scaled small lead),
+    )

@@ -7,6 +7,7 @@ use lib.Dec.{leb, ltb, eqb}
 use lib.Ieee.{Float, nan, inf, fin, Format, low, up, down, size, ofBits, toBits, nanBits}
 use Rattle.floats.specs.Flush.{flush}
 use Rattle.nans.specs.Nan.{nanOf}
+use Rattle.exceptions.specs.Exceptions.{invalid, inexact, nanExceptions}
 use Rattle.rounding.specs.Rounding.{roundingOf, move, settled, dropped}
 use Rattle.rounding.specs.declared.rounding.Rounding.{Rounding}
 
@@ -48,25 +49,51 @@ unfoldable pub squareRoot : Format → ℕ → ℕ → ℕ
 unfolding rootNumber nanOf
 squareRoot f control m = cond (nanBits f m) (nanOf f control m m) (rootNumber f control m)
 
+-- ---- what it raises
+
+-- the root of num / den is a value of the format: nothing is left of what `rootOf` rounds
+unfoldable pub exactRoot : Format → ℕ → ℕ → Bool
+exactRoot f num den =
+    let n = num * 2 ^ (low f + low f) in
+    let k = dropped f (isqrt (n / den)) in
+    let u = den * 2 ^ (k + k) in
+    let q = isqrt (n / u) in
+    eqb (q * q * u) n
+
+-- a root is neither too large nor tiny
+unfoldable pub sqrtExceptions : Format → Float → ℕ
+unfolding exactRoot
+sqrtExceptions f nan = 0
+sqrtExceptions f (inf s) = cond s invalid 0
+sqrtExceptions f (fin s zero e) = 0
+sqrtExceptions f (fin s (suc m) e) = cond s invalid (cond (exactRoot f (suc m * up e) (down e)) 0 inexact)
+
+-- of any word, in every mode, and whether results are flushed or not
+unfoldable pub rootExceptions : Format → ℕ → ℕ
+unfolding sqrtExceptions
+rootExceptions f m = cond (nanBits f m) (nanExceptions f m m) (sqrtExceptions f (ofBits f m))
+
+-- ---- what the code's stages give
+
 -- a root's digits and what is left, of a number n
 pub record IsRoot (n root rest : ℕ) : Type 0 where
   pub sum : root * root + rest ≡ n
   pub least : rest ≤ 2 * root
 
--- the root of n rounded, of so many digits, and whether n is its square
-pub record IsRooted (mode : Rounding) (n steps kept : ℕ) (exact : Bool) : Type 0 where
+-- the root of n as a whole number, and whether n is its square
+pub record IsRooted (mode : Rounding) (n most kept : ℕ) (exact : Bool) : Type 0 where
   pub kept-is : kept ≡ rootCut mode n 1
-  pub below : kept ≤ 2 ^ steps
+  pub below : kept ≤ most
   pub exact-is : exact ≡ eqb (isqrt n * isqrt n) n
+
+-- the root of a value as a word, and what it raises
+pub record IsSqrt (mode : Rounding) (f : Format) (v : Float) (bits raised : ℕ) : Type 0 where
+  pub bits-are : bits ≡ toBits f (sqrtOf mode f v)
+  pub raised-is : raised ≡ sqrtExceptions f v
 
 -- 2 ^ 52 and the 52 digits of y, and twice that where the bit above them, the lowest of a normal value's exponent, is 0
 abbrev pub radicand : ℕ → ℕ
 radicand y = cond (ltb y (2 ^ 52)) (y * 2 + 2 ^ 53) y
-
--- the root of n as a whole number
-pub record IsRoundedRoot (mode : Rounding) (n most r : ℕ) : Type 0 where
-  pub is : r ≡ rootCut mode n 1
-  pub below : r ≤ most
 
 -- an estimate of the root of n, with what is left of n, where it is near: then the root is below q + 3
 pub record IsEstimate (n most q rest : ℕ) (near : Bool) : Type 0 where

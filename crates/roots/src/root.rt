@@ -2,11 +2,20 @@
 ghost use mathlib.Core.Path.{_≡_};
 ghost use mathlib.Core.Bool.{false, cond};
 ghost use Prim.Native.Nat.{_+_, _*_, _/_, _%_, _≤_, _<_, _^_};
-ghost use lib.Ieee.{binary32, binary64, ofBits, toBits, nanBits};
+ghost use lib.Ieee.{binary32, binary64, ofBits, nanBits};
 ghost use Rattle.rounding.specs.declared.rounding.Rounding.the-variants.{Nearest, Up, Zero};
-ghost use Rattle.roots.specs.Root.{IsRoot, IsRooted, IsRoundedRoot, IsEstimate, radicand, sqrtOf, squareRoot};
+ghost use Rattle.exceptions.specs.Exceptions.{inexact};
+ghost use Rattle.roots.specs.Root.{IsRoot, IsRooted, IsEstimate, IsSqrt, radicand, squareRoot, rootExceptions};
+use exceptions::exceptions::INVALID;
+use exceptions::exceptions::Raised32;
+use exceptions::exceptions::Raised64;
+use exceptions::exceptions::nan_exceptions32;
+use exceptions::exceptions::nan_exceptions64;
+use exceptions::exceptions::settled;
 use floats::word::is_nan32;
 use floats::word::is_nan64;
+use nans::nan::DEFAULT_NAN32;
+use nans::nan::DEFAULT_NAN64;
 use nans::nan::nan_of32;
 use nans::nan::nan_of64;
 use rounding::lift::lift;
@@ -64,70 +73,96 @@ fn root_digits(x: u64, steps: u64) -> Digits
 // The root of m * 2 ^ (e % 2), of so many digits, rounded.
 fn rooted(mode: Rounding, m: u64, e: u64, steps: u64) -> Rounded
     requires { ⌜ (m < 2 ^ 53) × (steps ≤ 60) ⌝ }
-    ensures { λ r. ⌜ IsRooted mode (m * 2 ^ (e % 2 + 10) * 2 ^ (steps + steps) / 2 ^ 64) steps (r .kept) (r .exact) ⌝ }
+    ensures { λ r. ⌜ IsRooted mode (m * 2 ^ (e % 2 + 10) * 2 ^ (steps + steps) / 2 ^ 64) (2 ^ steps) (r .kept) (r .exact) ⌝ }
 {
     let odd = e % 2;
     let r = root_digits(m << (odd + 10), steps);
     step(mode, false, r.root, r.rest * 2, r.root * 4 + 1)
 }
 
-// The root of a single. A subnormal is moved up by its leading zeros.
-fn root32(mode: Rounding, b: u32) -> u32
-    ensures { λ r. ⌜ r ≡ toBits binary32 (sqrtOf mode binary32 (ofBits binary32 b)) ⌝ }
+// The root of a single that is no NaN. A subnormal is moved up by its leading zeros.
+fn root32(mode: Rounding, b: u32) -> Raised32
+    requires { ⌜ nanBits binary32 b ≡ false ⌝ }
+    ensures { λ r. ⌜ IsSqrt mode binary32 (ofBits binary32 b) (r .bits) (r .exceptions) ⌝ }
 {
     let w = b as u64;
     let field = w % 0x8000_0000 / 0x80_0000;
     let t = w % 0x80_0000;
     if w % 0x8000_0000 == 0 {
-        return b;
+        return Raised32 {
+            bits: b,
+            exceptions: 0,
+        };
     }
     if w >= 0x8000_0000 {
-        return 0x7FC0_0000;
+        return Raised32 {
+            bits: DEFAULT_NAN32,
+            exceptions: INVALID,
+        };
     }
     if field == 255 {
-        if t == 0 {
-            return 0x7F80_0000;
-        }
-        return 0x7FC0_0000;
+        return Raised32 {
+            bits: 0x7F80_0000,
+            exceptions: 0,
+        };
     }
     if field == 0 {
         let up = lift(t);
         let e = 53 - up;
         let r = rooted(mode, t << up, e, 24);
-        return ((e / 2 + 51) * 0x80_0000 + r.kept) as u32;
+        return Raised32 {
+            bits: ((e / 2 + 51) * 0x80_0000 + r.kept) as u32,
+            exceptions: settled(r.exact, false, false),
+        };
     }
     let e = field + 23;
     let r = rooted(mode, (0x80_0000 + t) * 0x2000_0000, e, 24);
-    ((e / 2 + 51) * 0x80_0000 + r.kept) as u32
+    Raised32 {
+        bits: ((e / 2 + 51) * 0x80_0000 + r.kept) as u32,
+        exceptions: settled(r.exact, false, false),
+    }
 }
 
 // The root of a double.
-fn root64(mode: Rounding, b: u64) -> u64
-    ensures { λ r. ⌜ r ≡ toBits binary64 (sqrtOf mode binary64 (ofBits binary64 b)) ⌝ }
+fn root64(mode: Rounding, b: u64) -> Raised64
+    requires { ⌜ nanBits binary64 b ≡ false ⌝ }
+    ensures { λ r. ⌜ IsSqrt mode binary64 (ofBits binary64 b) (r .bits) (r .exceptions) ⌝ }
 {
     let field = b % 0x8000_0000_0000_0000 / 0x10_0000_0000_0000;
     let t = b % 0x10_0000_0000_0000;
     if b % 0x8000_0000_0000_0000 == 0 {
-        return b;
+        return Raised64 {
+            bits: b,
+            exceptions: 0,
+        };
     }
     if b >= 0x8000_0000_0000_0000 {
-        return 0x7FF8_0000_0000_0000;
+        return Raised64 {
+            bits: DEFAULT_NAN64,
+            exceptions: INVALID,
+        };
     }
     if field == 2047 {
-        if t == 0 {
-            return 0x7FF0_0000_0000_0000;
-        }
-        return 0x7FF8_0000_0000_0000;
+        return Raised64 {
+            bits: 0x7FF0_0000_0000_0000,
+            exceptions: 0,
+        };
     }
     if field == 0 {
         let up = lift(t);
         let e = 52 - up;
         let r = rooted(mode, t << up, e, 53);
-        return (e / 2 + 485) * 0x10_0000_0000_0000 + r.kept;
+        return Raised64 {
+            bits: (e / 2 + 485) * 0x10_0000_0000_0000 + r.kept,
+            exceptions: settled(r.exact, false, false),
+        };
     }
     let e = field + 51;
     let r = rooted(mode, 0x10_0000_0000_0000 + t, e, 53);
-    (e / 2 + 485) * 0x10_0000_0000_0000 + r.kept
+    Raised64 {
+        bits: (e / 2 + 485) * 0x10_0000_0000_0000 + r.kept,
+        exceptions: settled(r.exact, false, false),
+    }
 }
 
 // y is a normal value's 52 digits with the lowest bit of its exponent above them. The number whose root is looked for is 2 ^ 52 and the digits,
@@ -189,20 +224,29 @@ fn one_if(more: bool) -> u64
 }
 
 // The whole number nearest to the root of q * q + rest, where it is q or one of the next two. No branch: which of them it is follows no pattern.
-fn nearest_root(q: u64, rest: u64) -> u64
+// Its square is the whole where the rest is just what the steps to it take.
+fn nearest_root(q: u64, rest: u64) -> Rounded
     requires { ⌜ (q < 2 ^ 60) × (rest ≤ 5 * q + 6) ⌝ }
-    ensures { λ r. ⌜ IsRoundedRoot Nearest (q * q + rest) (q + 3) r ⌝ }
+    ensures { λ r. ⌜ IsRooted Nearest (q * q + rest) (q + 3) (r .kept) (r .exact) ⌝ }
 {
-    q + one_if(q < rest) + one_if(3 * q + 2 < rest)
+    let steps = one_if(q < rest) + one_if(3 * q + 2 < rest);
+    Rounded {
+        kept: q + steps,
+        exact: steps * (2 * q + steps) == rest,
+    }
 }
 
 // The last one not above the root: q and the steps that the rest has room for. Upwards one more where something is left of it.
-fn directed_root(up: bool, q: u64, rest: u64) -> u64
+fn directed_root(up: bool, q: u64, rest: u64) -> Rounded
     requires { ⌜ (q < 2 ^ 60) × (rest ≤ 5 * q + 6) ⌝ }
-    ensures { λ r. ⌜ IsRoundedRoot (cond up Up Zero) (q * q + rest) (q + 3) r ⌝ }
+    ensures { λ r. ⌜ IsRooted (cond up Up Zero) (q * q + rest) (q + 3) (r .kept) (r .exact) ⌝ }
 {
     let steps = one_if(2 * q < rest) + one_if(4 * q + 3 < rest);
-    q + steps + one_if(up & (steps * (2 * q + steps) < rest))
+    let taken = steps * (2 * q + steps);
+    Rounded {
+        kept: q + steps + one_if(up & (taken < rest)),
+        exact: taken == rest,
+    }
 }
 
 // An estimate of a root, what its square leaves, and whether that is little enough.
@@ -245,26 +289,32 @@ fn estimate53(x: u64, n: u64) -> Estimate
     }
 }
 
-// The word of a normal single's root, from its digits: half of the exponent, and the digits below it.
-fn placed32(w: u64, kept: u64) -> u32
-    requires { ⌜ (w < 0x7F80_0000) × (kept ≤ 2 ^ 24 + 2) ⌝ }
-    ensures { λ r. ⌜ r ≡ (w / 0x80_0000 + w / 0x80_0000 % 2 + 124) * 0x40_0000 + kept ⌝ }
+// The word of a normal single's root, from its digits: half of the exponent, and the digits below it. And what it raises.
+fn placed32(w: u64, digits: Rounded) -> Raised32
+    requires { ⌜ (w < 0x7F80_0000) × (digits .kept ≤ 2 ^ 24 + 2) ⌝ }
+    ensures { λ r. ⌜ (r .bits ≡ (w / 0x80_0000 + w / 0x80_0000 % 2 + 124) * 0x40_0000 + digits .kept) × (r .exceptions ≡ cond (digits .exact) 0 inexact) ⌝ }
 {
     let field = w / 0x80_0000;
-    ((field + field % 2 + 124) * 0x40_0000 + kept) as u32
+    Raised32 {
+        bits: ((field + field % 2 + 124) * 0x40_0000 + digits.kept) as u32,
+        exceptions: settled(digits.exact, false, false),
+    }
 }
 
-fn placed64(m: u64, kept: u64) -> u64
-    requires { ⌜ (m < 0x7FF0_0000_0000_0000) × (kept ≤ 2 ^ 53 + 2) ⌝ }
-    ensures { λ r. ⌜ r ≡ (m / 0x10_0000_0000_0000 + m / 0x10_0000_0000_0000 % 2 + 1020) * 0x8_0000_0000_0000 + kept ⌝ }
+fn placed64(m: u64, digits: Rounded) -> Raised64
+    requires { ⌜ (m < 0x7FF0_0000_0000_0000) × (digits .kept ≤ 2 ^ 53 + 2) ⌝ }
+    ensures { λ r. ⌜ (r .bits ≡ (m / 0x10_0000_0000_0000 + m / 0x10_0000_0000_0000 % 2 + 1020) * 0x8_0000_0000_0000 + digits .kept) × (r .exceptions ≡ cond (digits .exact) 0 inexact) ⌝ }
 {
     let field = m / 0x10_0000_0000_0000;
-    (field + field % 2 + 1020) * 0x8_0000_0000_0000 + kept
+    Raised64 {
+        bits: (field + field % 2 + 1020) * 0x8_0000_0000_0000 + digits.kept,
+        exceptions: settled(digits.exact, false, false),
+    }
 }
 
-// The root of a normal value to nearest, by an estimate that is checked, or 0 where that is too far off, or the value is not normal.
-pub fn quick_root32(m: u32) -> u32
-    ensures { λ r. ⌜ (0 < r → (nanBits binary32 m ≡ false) × (r ≡ toBits binary32 (sqrtOf Nearest binary32 (ofBits binary32 m)))) ⌝ }
+// The root of a normal value to nearest, by an estimate that is checked, or the word 0 where that is too far off, or the value is not normal.
+pub fn quick_root32(m: u32) -> Raised32
+    ensures { λ r. ⌜ (0 < r .bits → (nanBits binary32 m ≡ false) × IsSqrt Nearest binary32 (ofBits binary32 m) (r .bits) (r .exceptions)) ⌝ }
 {
     let w = m as u64;
     if w >= 0x80_0000 {
@@ -277,11 +327,14 @@ pub fn quick_root32(m: u32) -> u32
             }
         }
     }
-    0
+    Raised32 {
+        bits: 0,
+        exceptions: 0,
+    }
 }
 
-pub fn quick_root64(m: u64) -> u64
-    ensures { λ r. ⌜ (0 < r → (nanBits binary64 m ≡ false) × (r ≡ toBits binary64 (sqrtOf Nearest binary64 (ofBits binary64 m)))) ⌝ }
+pub fn quick_root64(m: u64) -> Raised64
+    ensures { λ r. ⌜ (0 < r .bits → (nanBits binary64 m ≡ false) × IsSqrt Nearest binary64 (ofBits binary64 m) (r .bits) (r .exceptions)) ⌝ }
 {
     if m >= 0x10_0000_0000_0000 {
         if m < 0x7FF0_0000_0000_0000 {
@@ -293,13 +346,16 @@ pub fn quick_root64(m: u64) -> u64
             }
         }
     }
-    0
+    Raised64 {
+        bits: 0,
+        exceptions: 0,
+    }
 }
 
 // The root in every mode: of a normal value by an estimate in the modes that `quick_root32` does not have, all else digit by digit. The control word gives
 // the mode alone: a root is never subnormal.
-pub fn square_root32(control: u32, m: u32) -> u32
-    ensures { λ r. ⌜ r ≡ squareRoot binary32 control m ⌝ }
+pub fn square_root32(control: u32, m: u32) -> Raised32
+    ensures { λ r. ⌜ (r .bits ≡ squareRoot binary32 control m) × (r .exceptions ≡ rootExceptions binary32 m) ⌝ }
 {
     let w = m as u64;
     let mode = control / 0x40_0000 % 4;
@@ -316,13 +372,16 @@ pub fn square_root32(control: u32, m: u32) -> u32
         }
     }
     if is_nan32(m) {
-        return nan_of32(control, m, m);
+        return Raised32 {
+            bits: nan_of32(control, m, m),
+            exceptions: nan_exceptions32(m, m),
+        };
     }
     root32(rounding_of(control), m)
 }
 
-pub fn square_root64(control: u32, m: u64) -> u64
-    ensures { λ r. ⌜ r ≡ squareRoot binary64 control m ⌝ }
+pub fn square_root64(control: u32, m: u64) -> Raised64
+    ensures { λ r. ⌜ (r .bits ≡ squareRoot binary64 control m) × (r .exceptions ≡ rootExceptions binary64 m) ⌝ }
 {
     let mode = control / 0x40_0000 % 4;
     if mode > 0 {
@@ -338,7 +397,10 @@ pub fn square_root64(control: u32, m: u64) -> u64
         }
     }
     if is_nan64(m) {
-        return nan_of64(control, m, m);
+        return Raised64 {
+            bits: nan_of64(control, m, m),
+            exceptions: nan_exceptions64(m, m),
+        };
     }
     root64(rounding_of(control), m)
 }

@@ -22,23 +22,27 @@ fn with_flags(fpscr: u32, flags: u32) -> u32
 pub fn compare_single(s: &[u32; 32], fpscr: u32, d: Single, m: Single) -> u32
     ensures { λ r. ⌜ SteppedWith (compareStep binary32 (d .0) (m .0)) fpscr (now (s .entry)) r (now (s .entry)) ⌝ }
 {
-    with_flags(fpscr, compare32(get_single(s, d), get_single(s, m)))
+    let c = compare32(false, get_single(s, d), get_single(s, m));
+    with_flags(fpscr, c.flags)
 }
 
 pub fn compare_double(s: &[u32; 32], fpscr: u32, d: Double, m: Double) -> u32
     ensures { λ r. ⌜ SteppedWith (compareStep binary64 (d .0) (m .0)) fpscr (now (s .entry)) r (now (s .entry)) ⌝ }
 {
-    with_flags(fpscr, compare64(get_double(s, d), get_double(s, m)))
+    let c = compare64(false, get_double(s, d), get_double(s, m));
+    with_flags(fpscr, c.flags)
 }
 
 pub fn compare_single_zero(s: &[u32; 32], fpscr: u32, d: Single) -> u32
     ensures { λ r. ⌜ SteppedWith (compareZeroStep binary32 (d .0)) fpscr (now (s .entry)) r (now (s .entry)) ⌝ }
 {
-    with_flags(fpscr, compare32(get_single(s, d), 0))
+    let c = compare32(false, get_single(s, d), 0);
+    with_flags(fpscr, c.flags)
 }
 
 pub fn compare_double_zero(s: &[u32; 32], fpscr: u32, d: Double) -> u32
     ensures { λ r. ⌜ SteppedWith (compareZeroStep binary64 (d .0)) fpscr (now (s .entry)) r (now (s .entry)) ⌝ }
 {
-    with_flags(fpscr, compare64(get_double(s, d), 0))
+    let c = compare64(false, get_double(s, d), 0);
+    with_flags(fpscr, c.flags)
 }

@@ -25,7 +25,7 @@ fn store_root_single(s: &mut [u32; 32], control: u32, d: Single, b: u32)
     ensures { λ _. ⌜ now (s .exit) ≡ set (now (s .entry)) (singleIndex (d .0)) (squareRoot binary32 control b) ⌝ }
 {
     let x = square_root32(control, b);
-    set_single(s, d, x);
+    set_single(s, d, x.bits);
 }
 
 pub fn root_single(s: &mut [u32; 32], control: u32, d: Single, m: Single)
@@ -34,10 +34,12 @@ pub fn root_single(s: &mut [u32; 32], control: u32, d: Single, m: Single)
     let b = get_single(s, m);
     if control / 0x40_0000 % 4 == 0 {
         let x = quick_root32(b);
-        if x > 0 {
-            set_single(s, d, x);
+        if x.bits > 0 {
+            set_single(s, d, x.bits);
             return;
         }
+        store_root_single(s, control, d, b);
+        return;
     }
     store_root_single(s, control, d, b);
 }
@@ -46,7 +48,7 @@ fn store_root_double(s: &mut [u32; 32], control: u32, d: Double, b: u64)
     ensures { λ _. ⌜ now (s .exit) ≡ set (set (now (s .entry)) (lowIndex (d .0)) (squareRoot binary64 control b % 2 ^ 32)) (highIndex (d .0)) (squareRoot binary64 control b / 2 ^ 32) ⌝ }
 {
     let x = square_root64(control, b);
-    set_double(s, d, x);
+    set_double(s, d, x.bits);
 }
 
 pub fn root_double(s: &mut [u32; 32], control: u32, d: Double, m: Double)
@@ -55,10 +57,12 @@ pub fn root_double(s: &mut [u32; 32], control: u32, d: Double, m: Double)
     let b = get_double(s, m);
     if control / 0x40_0000 % 4 == 0 {
         let x = quick_root64(b);
-        if x > 0 {
-            set_double(s, d, x);
+        if x.bits > 0 {
+            set_double(s, d, x.bits);
             return;
         }
+        store_root_double(s, control, d, b);
+        return;
     }
     store_root_double(s, control, d, b);
 }

@@ -10,17 +10,18 @@ use borrow.Author.Tests.{eq-eqb, ne-eqb}
 use lib.Dec.{eqb}
 use lib.Pow.{pow-add, pow-pos, pow-mono}
 use lib.Ieee.{Float, Format, top, unlike, toBits}
-use Rattle.rounding.specs.Rounding.{rounded}
 use Rattle.rounding.specs.declared.rounding.Rounding.{Rounding}
 use Rattle.packing.specs.Pack.{IsSettled}
-use Rattle.operators.specs.Operators.{zeroSign, sumOf, sum}
+use Rattle.operators.specs.Operators.{zeroSign, sumSize, sumSign, sum}
 use Rattle.digits.specs.Digits.{IsOperand, IsFolded}
 use Rattle.sums.specs.Aligned.{IsAligned, IsSum}
-use Rattle.packing.proofs.Written.{rounded-same}
-use Rattle.operators.proofs.Sums.{sum-like, sum-more, sum-none, sum-at, sum-swap}
-use Rattle.operators.proofs.Words.{zero-bits}
-use Rattle.digits.proofs.Sticky.{folded-rounds, most-digits, folded-zero, zero-folded}
-use Rattle.digits.proofs.Raising.{settled-is}
+use Rattle.exceptions.specs.Exceptions.{settledExceptions}
+use Rattle.exceptions.specs.Operators.{sumExceptions}
+use Rattle.packing.proofs.Settle.{settled-same}
+use Rattle.operators.proofs.Sums.{sum-like, sum-more, sum-none, sum-swap}
+use Rattle.operators.proofs.Words.{zero-settles}
+use Rattle.exceptions.proofs.Values.{sum-settles}
+use Rattle.digits.proofs.Sticky.{folded-settles, most-digits, folded-zero, zero-folded}
 use Rattle.sums.proofs.Align.{sum-folded, add-room, sub-room, difference-folded}
 
 -- ---- signs
@@ -66,10 +67,10 @@ ordered a ea b eb A A' B B' h = (first a ea b eb A' B h, go (decLt eb ea))
 -- ---- digits that stand for y * 2 ^ eb / 2 ^ 1126
 
 module _ (ea eb d num x y m : ℕ) (D : ea ≡ d + eb) (p : IsFolded 53 x (2 ^ d) m) (e : x ≡ y * 128) (n : num ≡ y * 2 ^ eb) where
-  stands : (mode : Rounding) (f : Format) (s : Bool) → rounded mode f s (m * 2 ^ (ea + 1075)) (2 ^ 2209) ≡ rounded mode f s num (2 ^ 1126)
-  stands mode f s =
-      sym (folded-rounds mode f s 53 x (2 ^ d) m (ea + 1075) (most-digits f) p)
-      ∙ rounded-same mode f s (x * 2 ^ suc (ea + 1075)) (2 ^ d * 2 ^ 2209) num (2 ^ 1126) (mul-pos (pow-pos d) (pow-pos 2209)) (pow-pos 1126) scale
+  stands : (mode : Rounding) (f : Format) (s : Bool) (bits : ℕ) (i o j : Bool) → IsSettled mode f s (m * 2 ^ (ea + 1075)) (2 ^ 2209) bits i o j → IsSettled mode f s num (2 ^ 1126) bits i o j
+  stands mode f s bits i o j q =
+      settled-same mode f s (x * 2 ^ suc (ea + 1075)) (2 ^ d * 2 ^ 2209) num (2 ^ 1126) bits i o j (mul-pos (pow-pos d) (pow-pos 2209)) (pow-pos 1126) scale
+      (folded-settles mode f s 53 x (2 ^ d) m (ea + 1075) (most-digits f) p bits i o j q)
     where
       exponents : (ea eb d : ℕ) → ea ≡ d + eb → 7 + suc (ea + 1075) + 1126 ≡ eb + (d + 2209)
       exponents ea eb d h = omega arith
@@ -147,10 +148,12 @@ module _ (s t : Bool) (a ea b eb h l : ℕ) (A : 2 ^ 52 ≤ a) (A' : a < 2 ^ 53)
 
   pub sum-is : unlike s t ≡ false → IsSum s (a * 2 ^ ea) t (b * 2 ^ eb) s ((a * 128 + h) * 2 + l) (ea + 1075)
   sum-is u = record {
-    same = λ (mode : Rounding) (f : Format).
-        ap (λ (z : Bool). rounded mode f z (m * 2 ^ (ea + 1075)) (2 ^ 2209)) (signed mode s m (some ea eb gap num x y m exps folded times units (more (a * 2 ^ ea) (b * 2 ^ eb) (mul-pos (pos a A) (pow-pos ea)))))
-        ∙ stands ea eb gap num x y m exps folded times units mode f s
-        ∙ sym (sum-like mode f s (a * 2 ^ ea) t (b * 2 ^ eb) (2 ^ 1126) (beq-yes s t u));
+    sign = λ (mode : Rounding).
+        sum-like mode s (a * 2 ^ ea) t (b * 2 ^ eb) (beq-yes s t u) .0
+        ∙ sym (signed mode s m (some ea eb gap num x y m exps folded times units (more (a * 2 ^ ea) (b * 2 ^ eb) (mul-pos (pos a A) (pow-pos ea)))));
+    same = λ (mode : Rounding) (f : Format) (σ : Bool) (bits : ℕ) (i o j : Bool) q.
+        subst (λ (z : ℕ). IsSettled mode f σ z (2 ^ 1126) bits i o j) (sym (sum-like mode s (a * 2 ^ ea) t (b * 2 ^ eb) (beq-yes s t u) .1))
+        (stands ea eb gap num x y m exps folded times units mode f σ bits i o j q);
     below = add-room a b gap h l A A' B w .1;
     range = range;
   }
@@ -186,7 +189,13 @@ module _ (s t : Bool) (a ea b eb h l : ℕ) (A : 2 ^ 52 ≤ a) (A' : a < 2 ^ 53)
       more x y h = omega arith
 
   pub difference-is : unlike s t ≡ true → IsSum s (a * 2 ^ ea) t (b * 2 ^ eb) s ((a * 128 - h - l) * 2 + l) (ea + 1075)
-  difference-is u = record { same = λ (mode : Rounding) (f : Format). go mode f (eq-or-lt-of-le G); below = sub-room a b gap h l A A' B w wide .2; range = range }
+  difference-is u = record {
+    sign = λ (mode : Rounding). sign-by mode (eq-or-lt-of-le G);
+    same = λ (mode : Rounding) (f : Format) (σ : Bool) (bits : ℕ) (i o j : Bool) q.
+        subst (λ (z : ℕ). IsSettled mode f σ z (2 ^ 1126) bits i o j) (sym (size-by mode (eq-or-lt-of-le G))) (stands ea eb gap num x y m exps folded times units mode f σ bits i o j q);
+    below = sub-room a b gap h l A A' B w wide .2;
+    range = range;
+  }
     where
       m : ℕ
       m = (a * 128 - h - l) * 2 + l
@@ -227,34 +236,42 @@ module _ (s t : Bool) (a ea b eb h l : ℕ) (A : 2 ^ 52 ≤ a) (A' : a < 2 ^ 53)
       nothing : (x y : ℕ) → y ≡ x → x - y ≡ 0
       nothing x y h = omega arith
 
-      go : (mode : Rounding) (f : Format) → (b * 2 ^ eb ≡ a * 2 ^ ea) ⊎ (b * 2 ^ eb < a * 2 ^ ea)
-          → rounded mode f (cond (eqb m 0) (zeroSign mode) s) (m * 2 ^ (ea + 1075)) (2 ^ 2209) ≡ sumOf mode f s (a * 2 ^ ea) t (b * 2 ^ eb) (2 ^ 1126)
-      go mode f (inl e) =
-          let z : num ≡ 0 = nothing (a * 2 ^ ea) (b * 2 ^ eb) e in
-          ap (λ (k : Bool). rounded mode f (cond k (zeroSign mode) s) (m * 2 ^ (ea + 1075)) (2 ^ 2209)) (eq-eqb m 0 (none ea eb gap num x y m exps folded times units z))
-          ∙ stands ea eb gap num x y m exps folded times units mode f (zeroSign mode)
-          ∙ ap (λ (k : ℕ). rounded mode f (zeroSign mode) k (2 ^ 1126)) z
-          ∙ sym (sum-none mode f s (a * 2 ^ ea) t (b * 2 ^ eb) (2 ^ 1126) (beq-no s t u) (sym e))
-      go mode f (inr k) =
-          ap (λ (z : Bool). rounded mode f z (m * 2 ^ (ea + 1075)) (2 ^ 2209)) (signed mode s m (some ea eb gap num x y m exps folded times units (left (a * 2 ^ ea) (b * 2 ^ eb) k)))
-          ∙ stands ea eb gap num x y m exps folded times units mode f s
-          ∙ sym (sum-more mode f s (a * 2 ^ ea) t (b * 2 ^ eb) (2 ^ 1126) (beq-no s t u) k)
+      sign-by : (mode : Rounding) → (b * 2 ^ eb ≡ a * 2 ^ ea) ⊎ (b * 2 ^ eb < a * 2 ^ ea) → sumSign mode s (a * 2 ^ ea) t (b * 2 ^ eb) ≡ cond (eqb m 0) (zeroSign mode) s
+      sign-by mode (inl e) =
+          sum-none mode s (a * 2 ^ ea) t (b * 2 ^ eb) (beq-no s t u) (sym e) .0
+          ∙ ap (λ (k : Bool). cond k (zeroSign mode) s) (sym (eq-eqb m 0 (none ea eb gap num x y m exps folded times units (nothing (a * 2 ^ ea) (b * 2 ^ eb) e))))
+      sign-by mode (inr k) =
+          sum-more mode s (a * 2 ^ ea) t (b * 2 ^ eb) (beq-no s t u) k .0
+          ∙ sym (signed mode s m (some ea eb gap num x y m exps folded times units (left (a * 2 ^ ea) (b * 2 ^ eb) k)))
+
+      size-by : (mode : Rounding) → (b * 2 ^ eb ≡ a * 2 ^ ea) ⊎ (b * 2 ^ eb < a * 2 ^ ea) → sumSize s (a * 2 ^ ea) t (b * 2 ^ eb) ≡ num
+      size-by mode (inl e) = sum-none mode s (a * 2 ^ ea) t (b * 2 ^ eb) (beq-no s t u) (sym e) .1 ∙ sym (nothing (a * 2 ^ ea) (b * 2 ^ eb) e)
+      size-by mode (inr k) = sum-more mode s (a * 2 ^ ea) t (b * 2 ^ eb) (beq-no s t u) k .1
 
 pub swapped : (s : Bool) (a : ℕ) (t : Bool) (b : ℕ) (n : Bool) (m e : ℕ) → IsSum t b s a n m e → IsSum s a t b n m e
-swapped s a t b n m e p = record { same = λ (mode : Rounding) (f : Format). p .same mode f ∙ sum-swap mode f t b s a (2 ^ 1126); below = p .below; range = p .range }
+swapped s a t b n m e p = record {
+  sign = λ (mode : Rounding). sym (sum-swap mode s a t b .0) ∙ p .sign mode;
+  same = λ (mode : Rounding) (f : Format) (σ : Bool) (bits : ℕ) (i o j : Bool) q.
+      subst (λ (z : ℕ). IsSettled mode f σ z (2 ^ 1126) bits i o j) (sum-swap mode s a t b .1) (p .same mode f σ bits i o j q);
+  below = p .below;
+  range = p .range;
+}
 
--- ---- the word
+-- ---- the word, and what was raised
 
 module _ (mode : Rounding) (f : Format) (x y : Float) (s t n : Bool) (a ea b eb m e : ℕ) (p : IsOperand x s a ea) (q : IsOperand y t b eb) (w : IsSum s (a * 2 ^ ea) t (b * 2 ^ eb) n m e) where
-  value : sumOf mode f s (a * 2 ^ ea) t (b * 2 ^ eb) (2 ^ 1126) ≡ sum mode f x y
-  value = sym (sum-at mode f x y s t (a * 2 ^ ea) (b * 2 ^ eb) (2 ^ 1126) (pow-pos 1126) (p .value) (q .value))
+  -- of the sign that the sum has, once its digits are settled
+  by : (σ : Bool) (bits : ℕ) (i o j : Bool) → cond (eqb m 0) (zeroSign mode) n ≡ σ → IsSettled mode f σ (m * 2 ^ e) (2 ^ 2209) bits i o j
+      → (bits ≡ toBits f (sum mode f x y)) × (settledExceptions i o j ≡ sumExceptions mode f x y)
+  by σ bits i o j z d =
+      sum-settles mode f x y s t (a * 2 ^ ea) (b * 2 ^ eb) (2 ^ 1126) σ (sumSize s (a * 2 ^ ea) t (b * 2 ^ eb)) bits i o j (pow-pos 1126) (p .value) (q .value) (w .sign mode ∙ z, refl)
+      (w .same mode f σ bits i o j d)
 
-  pub none-word : (r : ℕ) → m ≡ 0 → r ≡ cond (zeroSign mode) (top f) 0 → r ≡ toBits f (sum mode f x y)
+  pub none-word : (r : ℕ) → m ≡ 0 → r ≡ cond (zeroSign mode) (top f) 0 → (r ≡ toBits f (sum mode f x y)) × (0 ≡ sumExceptions mode f x y)
   none-word r z d =
-      d
-      ∙ sym (zero-bits mode f (zeroSign mode) (m * 2 ^ e) (2 ^ 2209) (pow-pos 2209) (ap (λ (k : ℕ). k * 2 ^ e) z ∙ zero-mul (2 ^ e)))
-      ∙ ap (λ (k : Bool). toBits f (rounded mode f (cond k (zeroSign mode) n) (m * 2 ^ e) (2 ^ 2209))) (sym (eq-eqb m 0 z))
-      ∙ ap (toBits f) (w .same mode f ∙ value)
+      by (zeroSign mode) r true false false (ap (λ (k : Bool). cond k (zeroSign mode) n) (eq-eqb m 0 z))
+      (subst (λ (k : ℕ). IsSettled mode f (zeroSign mode) (m * 2 ^ e) (2 ^ 2209) k true false false) (sym d)
+      (zero-settles mode f (zeroSign mode) (m * 2 ^ e) (2 ^ 2209) (pow-pos 2209) (ap (λ (k : ℕ). k * 2 ^ e) z ∙ zero-mul (2 ^ e))))
 
-  pub some-word : (r : ℕ) (i o j : Bool) → (m ≡ 0 → ⊥) → IsSettled mode f n (m * 2 ^ e) (2 ^ 2209) r i o j → r ≡ toBits f (sum mode f x y)
-  some-word r i o j z d = settled-is mode f n (cond (eqb m 0) (zeroSign mode) n) (sum mode f x y) m e r i o j d (sym (ap (λ (k : Bool). cond k (zeroSign mode) n) (ne-eqb m 0 z))) (w .same mode f ∙ value)
+  pub some-word : (r : ℕ) (i o j : Bool) → (m ≡ 0 → ⊥) → IsSettled mode f n (m * 2 ^ e) (2 ^ 2209) r i o j → (r ≡ toBits f (sum mode f x y)) × (settledExceptions i o j ≡ sumExceptions mode f x y)
+  some-word r i o j z d = by n r i o j (ap (λ (k : Bool). cond k (zeroSign mode) n) (ne-eqb m 0 z)) d

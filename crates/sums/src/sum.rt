@@ -1,11 +1,12 @@
-// The sum of two words by a mode. The smaller operand is moved down to the larger one's exponent, with a sticky digit for what falls off; then the
+// The sum of two words by a mode, and the exceptions that it raises. The smaller operand is moved down to the larger one's exponent, with a sticky digit for what falls off; then the
 // digits are added, or subtracted where the signs are unlike.
 ghost use mathlib.Core.Path.{_≡_};
 ghost use mathlib.Core.Bool.{cond};
 ghost use Prim.Native.Nat.{_+_, _*_, _%_, _≤_, _<_, _^_};
 ghost use lib.Ieee.{binary32, binary64};
 ghost use Rattle.rounding.specs.declared.rounding.Rounding.{Rounding};
-ghost use Rattle.operators.specs.Operators.{zeroSign, sum, onWords};
+ghost use Rattle.operators.specs.Operators.{zeroSign, sum};
+ghost use Rattle.exceptions.specs.Operators.{sumExceptions, IsResult};
 ghost use Rattle.digits.specs.Digits.{IsNumber};
 ghost use Rattle.sums.specs.Aligned.{IsAligned, IsSum};
 use digits::operand::is_number32;
@@ -16,6 +17,13 @@ use digits::raise::raised32;
 use digits::raise::raised64;
 use digits::raise::sticky;
 use digits::sign::unlike;
+use exceptions::exceptions::Raised32;
+use exceptions::exceptions::Raised64;
+use exceptions::exceptions::invalid32;
+use exceptions::exceptions::invalid64;
+use exceptions::exceptions::settled;
+use exceptions::exceptions::silent32;
+use exceptions::exceptions::silent64;
 use rounding::rounding::Rounding;
 use rounding::rounding::least;
 
@@ -102,24 +110,27 @@ fn zero_sum64(mode: Rounding) -> u64
 }
 
 // Of words that are finite and not 0.
-fn number_sum32(mode: Rounding, a: u32, b: u32) -> u32
+fn number_sum32(mode: Rounding, a: u32, b: u32) -> Raised32
     requires { ⌜ IsNumber binary32 a × IsNumber binary32 b ⌝ }
-    ensures { λ r. ⌜ r ≡ onWords binary32 (sum mode binary32) a b ⌝ }
+    ensures { λ r. ⌜ IsResult binary32 (sum mode binary32) (sumExceptions mode binary32) a b (r .bits) (r .exceptions) ⌝ }
 {
     let p = operand32(a);
     let q = operand32(b);
     let w = sum_digits(a >= 0x8000_0000, p.m, p.e, b >= 0x8000_0000, q.m, q.e);
     let m = w.m;
     if m == 0 {
-        return zero_sum32(mode);
+        return silent32(zero_sum32(mode));
     }
     let s = raised32(mode, w.negative, m, w.e);
-    s.bits
+    Raised32 {
+        bits: s.bits,
+        exceptions: settled(s.exact, s.over, s.tiny),
+    }
 }
 
-fn number_sum64(mode: Rounding, a: u64, b: u64) -> u64
+fn number_sum64(mode: Rounding, a: u64, b: u64) -> Raised64
     requires { ⌜ IsNumber binary64 a × IsNumber binary64 b ⌝ }
-    ensures { λ r. ⌜ r ≡ onWords binary64 (sum mode binary64) a b ⌝ }
+    ensures { λ r. ⌜ IsResult binary64 (sum mode binary64) (sumExceptions mode binary64) a b (r .bits) (r .exceptions) ⌝ }
 {
     let p = operand64(a);
     let q = operand64(b);
@@ -133,116 +144,119 @@ fn number_sum64(mode: Rounding, a: u64, b: u64) -> u64
     );
     let m = w.m;
     if m == 0 {
-        return zero_sum64(mode);
+        return silent64(zero_sum64(mode));
     }
-    let s = raised64(mode, w.negative, m, w.e);
-    s.bits
+    let d = raised64(mode, w.negative, m, w.e);
+    Raised64 {
+        bits: d.bits,
+        exceptions: settled(d.exact, d.over, d.tiny),
+    }
 }
 
 // Of two infinities, and of two zeros.
-fn infinities32(a: u32, b: u32) -> u32
+fn infinities32(a: u32, b: u32) -> Raised32
     requires { ⌜ (a % 0x8000_0000 ≡ 0x7F80_0000) × (b % 0x8000_0000 ≡ 0x7F80_0000) ⌝ }
-    ensures { λ r. ⌜ ((mode : Rounding) → r ≡ onWords binary32 (sum mode binary32) a b) ⌝ }
+    ensures { λ r. ⌜ ((mode : Rounding) → IsResult binary32 (sum mode binary32) (sumExceptions mode binary32) a b (r .bits) (r .exceptions)) ⌝ }
 {
     if unlike(a >= 0x8000_0000, b >= 0x8000_0000) {
-        return 0x7FC0_0000;
+        return invalid32();
     }
-    a
+    silent32(a)
 }
 
-fn infinities64(a: u64, b: u64) -> u64
+fn infinities64(a: u64, b: u64) -> Raised64
     requires { ⌜ (a % 0x8000_0000_0000_0000 ≡ 0x7FF0_0000_0000_0000) × (b % 0x8000_0000_0000_0000 ≡ 0x7FF0_0000_0000_0000) ⌝ }
-    ensures { λ r. ⌜ ((mode : Rounding) → r ≡ onWords binary64 (sum mode binary64) a b) ⌝ }
+    ensures { λ r. ⌜ ((mode : Rounding) → IsResult binary64 (sum mode binary64) (sumExceptions mode binary64) a b (r .bits) (r .exceptions)) ⌝ }
 {
     if unlike(a >= 0x8000_0000_0000_0000, b >= 0x8000_0000_0000_0000) {
-        return 0x7FF8_0000_0000_0000;
+        return invalid64();
     }
-    a
+    silent64(a)
 }
 
-fn zeros32(mode: Rounding, a: u32, b: u32) -> u32
+fn zeros32(mode: Rounding, a: u32, b: u32) -> Raised32
     requires { ⌜ (a % 0x8000_0000 ≡ 0) × (b % 0x8000_0000 ≡ 0) ⌝ }
-    ensures { λ r. ⌜ r ≡ onWords binary32 (sum mode binary32) a b ⌝ }
+    ensures { λ r. ⌜ IsResult binary32 (sum mode binary32) (sumExceptions mode binary32) a b (r .bits) (r .exceptions) ⌝ }
 {
     if unlike(a >= 0x8000_0000, b >= 0x8000_0000) {
-        return zero_sum32(mode);
+        return silent32(zero_sum32(mode));
     }
-    a
+    silent32(a)
 }
 
-fn zeros64(mode: Rounding, a: u64, b: u64) -> u64
+fn zeros64(mode: Rounding, a: u64, b: u64) -> Raised64
     requires { ⌜ (a % 0x8000_0000_0000_0000 ≡ 0) × (b % 0x8000_0000_0000_0000 ≡ 0) ⌝ }
-    ensures { λ r. ⌜ r ≡ onWords binary64 (sum mode binary64) a b ⌝ }
+    ensures { λ r. ⌜ IsResult binary64 (sum mode binary64) (sumExceptions mode binary64) a b (r .bits) (r .exceptions) ⌝ }
 {
     if unlike(a >= 0x8000_0000_0000_0000, b >= 0x8000_0000_0000_0000) {
-        return zero_sum64(mode);
+        return silent64(zero_sum64(mode));
     }
-    a
+    silent64(a)
 }
 
 // Where a word is a NaN, an infinity or a zero. A zero adds nothing.
-fn special_sum32(mode: Rounding, a: u32, b: u32) -> u32
+fn special_sum32(mode: Rounding, a: u32, b: u32) -> Raised32
     requires { ⌜ (IsNumber binary32 a → IsNumber binary32 b → ⊥) ⌝ }
-    ensures { λ r. ⌜ r ≡ onWords binary32 (sum mode binary32) a b ⌝ }
+    ensures { λ r. ⌜ IsResult binary32 (sum mode binary32) (sumExceptions mode binary32) a b (r .bits) (r .exceptions) ⌝ }
 {
     let x = a % 0x8000_0000;
     let y = b % 0x8000_0000;
     if x > 0x7F80_0000 {
-        return 0x7FC0_0000;
+        return silent32(0x7FC0_0000);
     }
     if y > 0x7F80_0000 {
-        return 0x7FC0_0000;
+        return silent32(0x7FC0_0000);
     }
     if x == 0x7F80_0000 {
         if y == 0x7F80_0000 {
             return infinities32(a, b);
         }
-        return a;
+        return silent32(a);
     }
     if y == 0x7F80_0000 {
-        return b;
+        return silent32(b);
     }
     if x == 0 {
         if y == 0 {
             return zeros32(mode, a, b);
         }
-        return b;
+        return silent32(b);
     }
-    a
+    silent32(a)
 }
 
-fn special_sum64(mode: Rounding, a: u64, b: u64) -> u64
+fn special_sum64(mode: Rounding, a: u64, b: u64) -> Raised64
     requires { ⌜ (IsNumber binary64 a → IsNumber binary64 b → ⊥) ⌝ }
-    ensures { λ r. ⌜ r ≡ onWords binary64 (sum mode binary64) a b ⌝ }
+    ensures { λ r. ⌜ IsResult binary64 (sum mode binary64) (sumExceptions mode binary64) a b (r .bits) (r .exceptions) ⌝ }
 {
     let x = a % 0x8000_0000_0000_0000;
     let y = b % 0x8000_0000_0000_0000;
     if x > 0x7FF0_0000_0000_0000 {
-        return 0x7FF8_0000_0000_0000;
+        return silent64(0x7FF8_0000_0000_0000);
     }
     if y > 0x7FF0_0000_0000_0000 {
-        return 0x7FF8_0000_0000_0000;
+        return silent64(0x7FF8_0000_0000_0000);
     }
     if x == 0x7FF0_0000_0000_0000 {
         if y == 0x7FF0_0000_0000_0000 {
             return infinities64(a, b);
         }
-        return a;
+        return silent64(a);
     }
     if y == 0x7FF0_0000_0000_0000 {
-        return b;
+        return silent64(b);
     }
     if x == 0 {
         if y == 0 {
             return zeros64(mode, a, b);
         }
-        return b;
+        return silent64(b);
     }
-    a
+    silent64(a)
 }
 
-pub fn sum32(mode: Rounding, a: u32, b: u32) -> u32
-    ensures { λ r. ⌜ r ≡ onWords binary32 (sum mode binary32) a b ⌝ }
+pub fn sum32(mode: Rounding, a: u32, b: u32) -> Raised32
+    ensures { λ r. ⌜ IsResult binary32 (sum mode binary32) (sumExceptions mode binary32) a b (r .bits) (r .exceptions) ⌝ }
 {
     if is_number32(a) {
         if is_number32(b) {
@@ -253,8 +267,8 @@ pub fn sum32(mode: Rounding, a: u32, b: u32) -> u32
     special_sum32(mode, a, b)
 }
 
-pub fn sum64(mode: Rounding, a: u64, b: u64) -> u64
-    ensures { λ r. ⌜ r ≡ onWords binary64 (sum mode binary64) a b ⌝ }
+pub fn sum64(mode: Rounding, a: u64, b: u64) -> Raised64
+    ensures { λ r. ⌜ IsResult binary64 (sum mode binary64) (sumExceptions mode binary64) a b (r .bits) (r .exceptions) ⌝ }
 {
     if is_number64(a) {
         if is_number64(b) {

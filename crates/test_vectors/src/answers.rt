@@ -1,11 +1,16 @@
 // The functions on numbers by number, on words of up to 64 bits.
 use directed::arithmetic::arithmetic32;
 use directed::arithmetic::arithmetic64;
+use directed::directed::directed32;
+use directed::directed::directed64;
+use exceptions::exceptions::Raised32;
+use exceptions::exceptions::Raised64;
 use integers::integer::from_integer32;
 use integers::integer::from_integer64;
 use integers::integer::to_integer32;
 use integers::integer::to_integer64;
 use numbers::arithmetic::Arithmetic;
+use numbers::compare::Compared;
 use numbers::compare::compare32;
 use numbers::compare::compare64;
 use roots::root::square_root32;
@@ -23,12 +28,14 @@ pub struct Work {
     pub d: u64,
 }
 
-fn low(x: u64) -> u32 {
-    (x % 0x1_0000_0000) as u32
+// A result, and what was raised.
+pub struct Raised {
+    pub bits: u64,
+    pub exceptions: u32,
 }
 
-fn wide(x: u32) -> u64 {
-    x as u64
+fn low(x: u64) -> u32 {
+    (x % 0x1_0000_0000) as u32
 }
 
 fn kind(k: u64) -> Arithmetic {
@@ -45,51 +52,102 @@ fn kind(k: u64) -> Arithmetic {
     }
 }
 
-// 1 where the flags are these.
-fn flag(flags: u32, these: u32) -> u64 {
-    if flags == these { 1 } else { 0 }
+fn of32(r: Raised32) -> Raised {
+    Raised {
+        bits: r.bits as u64,
+        exceptions: r.exceptions,
+    }
 }
 
-// Operations 0x20 to 0x28, whose operand is a single or an integer.
-fn single(w: Work) -> u64 {
+fn of64(r: Raised64) -> Raised {
+    Raised {
+        bits: r.bits,
+        exceptions: r.exceptions,
+    }
+}
+
+fn flags(c: Compared) -> Raised {
+    Raised {
+        bits: c.flags as u64,
+        exceptions: c.exceptions,
+    }
+}
+
+// 1 where the flags are these.
+fn is(c: Compared, these: u32) -> Raised {
+    if c.flags == these {
+        return Raised {
+            bits: 1,
+            exceptions: c.exceptions,
+        };
+    }
+    Raised {
+        bits: 0,
+        exceptions: c.exceptions,
+    }
+}
+
+// Operations 0x20 to 0x2A, whose operand is a single or an integer.
+fn single(w: Work) -> Raised {
     let a = low(w.n);
     let op = w.op;
     match op {
-        0x20 => wide(square_root32(w.control, a)),
-        0x21 => wide(compare32(a, low(w.m))),
-        0x22 => widen(w.control, a),
-        0x23 => wide(from_integer32(w.control, true, a)),
-        0x24 => wide(from_integer32(w.control, false, a)),
-        0x25 => wide(to_integer32(rounding_of(w.control), true, a)),
-        0x26 => wide(to_integer32(rounding_of(w.control), false, a)),
-        0x27 => flag(compare32(a, low(w.m)), 0b0110),
-        _ => flag(compare32(a, low(w.m)), 0b1000),
+        0x20 => of32(square_root32(w.control, a)),
+        0x21 => flags(compare32(false, a, low(w.m))),
+        0x22 => of64(widen(w.control, a)),
+        0x23 => of32(from_integer32(w.control, true, a)),
+        0x24 => of32(from_integer32(w.control, false, a)),
+        0x25 => of32(to_integer32(rounding_of(w.control), true, a)),
+        0x26 => of32(to_integer32(rounding_of(w.control), false, a)),
+        0x27 => is(compare32(false, a, low(w.m)), 0b0110),
+        0x28 => is(compare32(false, a, low(w.m)), 0b1000),
+        0x29 => is(compare32(true, a, low(w.m)), 0b0110),
+        _ => is(compare32(true, a, low(w.m)), 0b1000),
     }
 }
 
-// Operations 0x30 to 0x38, for doubles.
-fn double(w: Work) -> u64 {
+// Operations 0x30 to 0x3A, for doubles.
+fn double(w: Work) -> Raised {
     let a = w.n;
     let op = w.op;
     match op {
-        0x30 => square_root64(w.control, a),
-        0x31 => wide(compare64(a, w.m)),
-        0x32 => wide(narrow(w.control, a)),
-        0x33 => from_integer64(true, low(a)),
-        0x34 => from_integer64(false, low(a)),
-        0x35 => wide(to_integer64(rounding_of(w.control), true, a)),
-        0x36 => wide(to_integer64(rounding_of(w.control), false, a)),
-        0x37 => flag(compare64(a, w.m), 0b0110),
-        _ => flag(compare64(a, w.m), 0b1000),
+        0x30 => of64(square_root64(w.control, a)),
+        0x31 => flags(compare64(false, a, w.m)),
+        0x32 => of32(narrow(w.control, a)),
+        0x33 => of64(from_integer64(true, low(a))),
+        0x34 => of64(from_integer64(false, low(a))),
+        0x35 => of32(to_integer64(rounding_of(w.control), true, a)),
+        0x36 => of32(to_integer64(rounding_of(w.control), false, a)),
+        0x37 => is(compare64(false, a, w.m), 0b0110),
+        0x38 => is(compare64(false, a, w.m), 0b1000),
+        0x39 => is(compare64(true, a, w.m), 0b0110),
+        _ => is(compare64(true, a, w.m), 0b1000),
     }
 }
 
-pub fn answer(w: Work) -> u64 {
+// The stored word, in mode 00 by native floats, and what is raised, which integer work tells.
+fn arithmetic_single(w: Work, k: Arithmetic) -> Raised {
+    let r = directed32(w.control, k, low(w.n), low(w.m), low(w.d));
+    Raised {
+        bits: arithmetic32(w.control, k, low(w.n), low(w.m), low(w.d)) as u64,
+        exceptions: r.exceptions,
+    }
+}
+
+fn arithmetic_double(w: Work, k: Arithmetic) -> Raised {
+    let r = directed64(w.control, k, w.n, w.m, w.d);
+    Raised {
+        bits: arithmetic64(w.control, k, w.n, w.m, w.d),
+        exceptions: r.exceptions,
+    }
+}
+
+pub fn answer(w: Work) -> Raised {
     if w.op < 0x10 {
-        return wide(arithmetic32(w.control, kind(w.op), low(w.n), low(w.m), low(w.d)));
+        return arithmetic_single(w, kind(w.op));
     }
     if w.op < 0x20 {
-        return arithmetic64(w.control, kind(w.op - 0x10), w.n, w.m, w.d);
+        return arithmetic_double(w, kind(w.op - 0x10));
     }
     if w.op < 0x30 {
         return single(w);

@@ -1,9 +1,10 @@
 // A file of lines of hexadecimal numbers, a byte at a time.
+use super::answers::Raised;
 use super::answers::Work;
 use super::answers::answer;
 use libc::STDOUT_FILENO;
 
-// What a file's lines hold: so many operands and the result, for one operation and one control word; with 0 operands
+// What a file's lines hold: so many operands, the result and the exceptions, for one operation and one control word; with 0 operands
 // each line has its own operation, control word, two operands, old d and result.
 pub struct Sort {
     pub operands: u64,
@@ -78,19 +79,37 @@ fn result(sort: Sort, v: [u64; 8]) -> u64 {
     v[2]
 }
 
+// The exceptions in the order of the published files: invalid is their highest bit, inexact their lowest.
+fn published(exceptions: u32) -> u64 {
+    let e = exceptions as u64;
+    e % 2 * 16 + e / 2 % 2 * 8 + e / 4 % 2 * 4 + e / 8 % 2 * 2 + e / 16 % 2
+}
+
+// Whether they are those of the line. Lines with their own operation have none.
+fn raised_alike(sort: Sort, v: [u64; 8], exceptions: u32) -> bool {
+    if sort.operands == 0 {
+        return true;
+    }
+    if sort.operands == 1 {
+        return v[2] == published(exceptions);
+    }
+    v[3] == published(exceptions)
+}
+
 fn show(name: &[u8], n: u64) {
     io::write_all(STDOUT_FILENO, name);
     io::print_hex(STDOUT_FILENO, n, 16);
 }
 
-fn differs(w: Work, want: u64, got: u64) {
+fn differs(w: Work, want: u64, got: Raised) {
     show(b"differs: operation ", w.op);
     show(b" control ", w.control as u64);
     show(b" n ", w.n);
     show(b" m ", w.m);
     show(b" d ", w.d);
     show(b" expected ", want);
-    show(b" got ", got);
+    show(b" got ", got.bits);
+    show(b" exceptions ", published(got.exceptions));
     io::write_all(STDOUT_FILENO, b"\n");
 }
 
@@ -98,8 +117,10 @@ fn compare(sort: Sort, numbers: [u64; 8], compared: u64, differ: u64) -> Tally {
     let w = work(sort, numbers);
     let want = result(sort, numbers);
     let got = answer(w);
-    if want == got {
-        return next(more(compared), differ);
+    if want == got.bits {
+        if raised_alike(sort, numbers, got.exceptions) {
+            return next(more(compared), differ);
+        }
     }
     differs(w, want, got);
     next(more(compared), more(differ))

@@ -108,9 +108,9 @@ fn singles() {
         0x20,
     );
     file(b"f32_eq.near_even", 2, 0x27, 0);
-    file(b"f32_eq_signaling.near_even", 2, 0x27, 0);
+    file(b"f32_eq_signaling.near_even", 2, 0x29, 0);
     file(b"f32_lt_quiet.near_even", 2, 0x28, 0);
-    file(b"f32_lt.near_even", 2, 0x28, 0);
+    file(b"f32_lt.near_even", 2, 0x2A, 0);
     file(b"f32_to_f64.near_even", 1, 0x22, 0);
 }
 
@@ -191,9 +191,9 @@ fn doubles() {
         0x30,
     );
     file(b"f64_eq.near_even", 2, 0x37, 0);
-    file(b"f64_eq_signaling.near_even", 2, 0x37, 0);
+    file(b"f64_eq_signaling.near_even", 2, 0x39, 0);
     file(b"f64_lt_quiet.near_even", 2, 0x38, 0);
-    file(b"f64_lt.near_even", 2, 0x38, 0);
+    file(b"f64_lt.near_even", 2, 0x3A, 0);
     in_modes(
         b"f64_to_f32.near_even",
         b"f64_to_f32.max",

@@ -1,12 +1,13 @@
 -- Of numbers: no result is longer than its word, and a widened single is never subnormal, so that flushing would not change it. Assumes nothing.
 use mathlib.Core.Path.{_≡_, sym, subst}
 use mathlib.Core.Logic.{_⊎_, inl, inr}
+use mathlib.Core.Bool.{Bool, true, false, cond}
 use Prim.Native.Nat.{ℕ, zero, _+_, _-_, _*_, _/_, _%_, _^_, _≤_, _<_}
 use native.Mathlib.Decide.{decLt}
 use native.Mathlib.Omega.{arith}
 use lib.Dec.{lit≤, lit<}
 use lib.Count.{leadingZeros}
-use lib.Ieee.{Float, nan, inf, fin, binary32, binary64, up, down, ofBits, toBits}
+use lib.Ieee.{Float, nan, inf, fin, binary32, binary64, up, down, ofBits, toBits, nanBits}
 use lib.Ieee.Bits.{toBits-lt, ofBits-fits}
 use lib.Ieee.Fits.{fits-widens, down-pos}
 use Rattle.floats.specs.Flush.{flush}
@@ -16,7 +17,9 @@ use Rattle.floats.proofs.Flushing.{NotSubnormal, flush-none, flush-lt}
 use Rattle.packing.proofs.Formed.{rounded-lt}
 use Rattle.rounding.proofs.Lifting.{moved-is, lifted}
 use Rattle.packing.proofs.Words.{nan-word, inf-word}
-use Rattle.widths.specs.Convert.{narrowed, narrowNumber, widenNumber}
+use Rattle.exceptions.specs.Exceptions.{nanExceptions, flushedExceptions}
+use Rattle.exceptions.proofs.Laws.{fraction-lt, nan-lt, flushed-lt}
+use Rattle.widths.specs.Convert.{narrowed, narrowNumber, widenNumber, narrowedExceptions, narrowExceptions, widenExceptions}
 use Rattle.widths.proofs.Widen.{wide-inf, wide-nan, wide-mid, wide-zero, wide-low}
 
 -- ---- narrowing
@@ -106,3 +109,21 @@ widen-not-subnormal b h = go (decLt 0 (field b)) (decLt (field b) 255) (decLt 0 
 -- flushing a widened single changes nothing
 pub widen-unflushed : (control b : ℕ) → b < 2 ^ 32 → flush binary64 control (widenNumber b) ≡ widenNumber b
 widen-unflushed control b h = flush-none binary64 control (widenNumber b) (widen-not-subnormal b h)
+
+-- ---- what is raised
+
+pub narrow-raises : (control b : ℕ) → narrowExceptions control b < 32
+unfolding narrowExceptions narrowedExceptions
+narrow-raises control b = by (nanBits binary64 b) (ofBits binary64 b)
+  where
+    value : (v : Float) → narrowedExceptions (roundingOf control) binary32 v < 32
+    value nan = lit< tt
+    value (inf s) = lit< tt
+    value (fin s m e) = fraction-lt (roundingOf control) binary32 s (m * up e) (down e)
+
+    by : (t : Bool) (v : Float) → cond t (nanExceptions binary64 b b) (flushedExceptions binary32 control (toBits binary32 (narrowed (roundingOf control) binary32 v)) (narrowedExceptions (roundingOf control) binary32 v)) < 32
+    by true v = nan-lt binary64 b b
+    by false v = flushed-lt binary32 control (toBits binary32 (narrowed (roundingOf control) binary32 v)) (narrowedExceptions (roundingOf control) binary32 v) (value v)
+
+pub widen-raises : (b : ℕ) → widenExceptions b < 32
+widen-raises b = nan-lt binary32 b b

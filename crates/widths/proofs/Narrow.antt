@@ -1,14 +1,15 @@
 -- Narrowing a value to a format. Assumes nothing.
 use mathlib.Core.Path.{_≡_, refl, sym, ap, _∙_, subst}
 use mathlib.Core.Logic.{inr}
-use mathlib.Core.Bool.{Bool, true, false, cond}
+use mathlib.Core.Bool.{Bool, true, false, _&&_, cond, and-false}
 use Prim.Native.Nat.{ℕ, _+_, _-_, _*_, _/_, _%_, _^_, _≤_, _<_, min, Ordering}
 use native.Mathlib.Nat.{le-trans, le-of-eq, mul-assoc, min-eq-left, mod-lt, div-div-eq-div-mul}
 use native.Mathlib.Decide.{decLt}
 use native.Mathlib.Omega.{arith}
-use lib.Dec.{leb, lit<}
+use lib.Dec.{leb, ltb, eqb, lit<}
+use borrow.Author.Tests.{le-ltb}
 use lib.Pow.{pow-add, pow-pos}
-use lib.Ieee.{Float, nan, inf, fin, Format, binary32, binary64, up, down, hid, ones, top, ofBits, toBits}
+use lib.Ieee.{Float, nan, inf, fin, Format, binary32, binary64, up, down, hid, ones, top, ofBits, toBits, nanBits}
 use lib.Ieee.Fits.{down-pos, nearest-le}
 use lib.Ieee.Exact.{HasValue}
 use Rattle.floats.specs.Flush.{flush}
@@ -16,12 +17,14 @@ use Rattle.rounding.specs.Rounding.{roundingOf, rounded, exact, over, tiny, mov
 use Rattle.packing.specs.Pack.{ceiling, packed, IsSettled}
 use Rattle.nans.specs.Nan.{resized}
 use Rattle.nans.proofs.Choosing.{no-nan, a-nan}
-use Rattle.widths.specs.Convert.{narrowed, onFinite, narrowNumber, narrow, IsNarrowed}
+use Rattle.exceptions.specs.Exceptions.{settledExceptions, fractionExceptions, nanExceptions, flushedExceptions}
+use Rattle.exceptions.proofs.Laws.{flushed-none}
+use Rattle.widths.specs.Convert.{narrowed, onFinite, narrowNumber, narrow, narrowedExceptions, narrowExceptions, IsNarrowed}
 use Rattle.rounding.specs.declared.rounding.Rounding.{Rounding}
 use Rattle.rounding.specs.declared.rounding.Rounding.the-variants.{Nearest, Up, Down, Zero}
 use Rattle.floats.proofs.Units.{slide, sign-bit, reads-low, reads-normal, reads-inf}
 use Rattle.floats.proofs.Patterns.{nan-of-fields}
-use Rattle.packing.proofs.Written.{ceiling-le, rounded-bits, rounded-same, exact-same, over-same, tiny-same}
+use Rattle.packing.proofs.Written.{ceiling-le, rounded-bits, exact-is, over-is, tiny-is, rounded-same, exact-same, over-same, tiny-same}
 use Rattle.rounding.proofs.Cutting.{mode-up, mode-down, mode-zero, move-le, cut-ge, cut-by-sum}
 use Rattle.floats.proofs.Flushing.{flush-large}
 use Rattle.packing.proofs.Settle.{settled-same}
@@ -46,16 +49,19 @@ test-value g same d (fin t m e) s a c C h = ap (λ (b : Bool). g b (m * up e) (d
 units : (m x e : ℕ) → 9 + e + 1074 ≡ x + 2209 → m * 512 * 2 ^ e * 2 ^ 1074 ≡ m * 2 ^ x * 2 ^ 2209
 units m x e h = ap (λ (z : ℕ). z * 2 ^ 1074) (mul-assoc m (2 ^ 9) (2 ^ e) ∙ ap (λ (z : ℕ). m * z) (sym (pow-add 2 9 e))) ∙ slide m (9 + e) 1074 x 2209 h
 
+settled-narrowed : (mode : Rounding) (f : Format) (v : Float) (s : Bool) (a c bits : ℕ) (x o t : Bool) → 0 < c → HasValue v s a c → IsSettled mode f s a c bits x o t → IsNarrowed mode f v bits x o t
+settled-narrowed mode f v s a c bits x o t C h q = record {
+  bits-are = q .bits-are ∙ ap (toBits f) (sym (narrowed-value mode f v s a c C h));
+  exact-is = q .exact-is ∙ sym (test-value (λ (s : Bool). exact f) (exact-same mode f) true v s a c C h);
+  over-is = q .over-is ∙ sym (test-value (over mode f) (over-same mode f) false v s a c C h);
+  tiny-is = q .tiny-is ∙ sym (test-value (λ (s : Bool). tiny f) (tiny-same mode f) false v s a c C h);
+}
+
 by-stage : (mode : Rounding) (f : Format) (v : Float) (s : Bool) (m k e bits : ℕ) (x o t : Bool) → HasValue v s (m * 2 ^ k) (2 ^ 1074) → 9 + e + 1074 ≡ k + 2209
     → IsSettled mode f s (m * 512 * 2 ^ e) (2 ^ 2209) bits x o t → IsNarrowed mode f v bits x o t
 by-stage mode f v s m k e bits x o t h d p =
-    let q = settled-same mode f s (m * 512 * 2 ^ e) (2 ^ 2209) (m * 2 ^ k) (2 ^ 1074) bits x o t (pow-pos 2209) (pow-pos 1074) (units m k e d) p in
-    record {
-      bits-are = q .bits-are ∙ ap (toBits f) (sym (narrowed-value mode f v s (m * 2 ^ k) (2 ^ 1074) (pow-pos 1074) h));
-      exact-is = q .exact-is ∙ sym (test-value (λ (s : Bool). exact f) (exact-same mode f) true v s (m * 2 ^ k) (2 ^ 1074) (pow-pos 1074) h);
-      over-is = q .over-is ∙ sym (test-value (over mode f) (over-same mode f) false v s (m * 2 ^ k) (2 ^ 1074) (pow-pos 1074) h);
-      tiny-is = q .tiny-is ∙ sym (test-value (λ (s : Bool). tiny f) (tiny-same mode f) false v s (m * 2 ^ k) (2 ^ 1074) (pow-pos 1074) h);
-    }
+    settled-narrowed mode f v s (m * 2 ^ k) (2 ^ 1074) bits x o t (pow-pos 1074) h
+    (settled-same mode f s (m * 512 * 2 ^ e) (2 ^ 2209) (m * 2 ^ k) (2 ^ 1074) bits x o t (pow-pos 2209) (pow-pos 1074) (units m k e d) p)
 
 -- ---- a double by its fields
 
@@ -101,22 +107,48 @@ narrow-mid mode f b bits x o t n l p =
     exps : (x : ℕ) → (x ≡ 0 → ⊥) → 9 + (x + 1125) + 1074 ≡ x - 1 + 2209
     exps x p = omega arith
 
--- ---- flushed as a single
+-- ---- any word, flushed as a single
 
-pub narrow-is : (control : ℕ) (mode : Rounding) (b bits r : ℕ) → mode ≡ roundingOf control → bits ≡ toBits binary32 (narrowed mode binary32 (ofBits binary64 b)) → r ≡ flush binary32 control bits
-    → r ≡ narrowNumber control b
-unfolding narrowNumber
-narrow-is control mode b bits r g p e = e ∙ ap (flush binary32 control) (p ∙ ap (λ (z : Rounding). toBits binary32 (narrowed z binary32 (ofBits binary64 b))) g)
+abbrev pub Narrows : ℕ → ℕ → ℕ → ℕ → Type 0
+Narrows control b bits raised = (bits ≡ narrow control b) × (raised ≡ narrowExceptions control b)
 
--- ---- any word
+-- what rounding raises, from its tests
+settled-raises : (mode : Rounding) (f : Format) (v : Float) (bits : ℕ) (x o t : Bool) → IsNarrowed mode f v bits x o t → settledExceptions x o t ≡ narrowedExceptions mode f v
+unfolding onFinite narrowedExceptions fractionExceptions
+settled-raises mode f v bits x o t p = tests x o t _ _ _ (p .exact-is) (p .over-is) (p .tiny-is) ∙ of v
+  where
+    tests : (x o t x' o' t' : Bool) → x ≡ x' → o ≡ o' → t ≡ t' → settledExceptions x o t ≡ settledExceptions x' o' t'
+    tests x o t x' o' t' d e g = rw (d, e, g)
 
-pub narrow-number : (control b : ℕ) → b % 0x8000_0000_0000_0000 ≤ 0x7FF0_0000_0000_0000 → narrowNumber control b ≡ narrow control b
-unfolding narrow
-narrow-number control b h = sym (ap (λ (t : Bool). cond t (resized binary64 binary32 control b) (narrowNumber control b)) (no-nan binary64 b h))
+    of : (v : Float) → settledExceptions (onFinite true (λ s. exact f) v) (onFinite false (over mode f) v) (onFinite false (λ s. tiny f) v) ≡ narrowedExceptions mode f v
+    of nan = refl
+    of (inf s) = refl
+    of (fin s m e) = refl
 
-pub narrow-resized : (control b r : ℕ) → 0x7FF0_0000_0000_0000 < b % 0x8000_0000_0000_0000 → r ≡ resized binary64 binary32 control b → r ≡ narrow control b
-unfolding narrow
-narrow-resized control b r h e = e ∙ sym (ap (λ (t : Bool). cond t (resized binary64 binary32 control b) (narrowNumber control b)) (a-nan binary64 b h))
+module _ (control b : ℕ) where
+  abbrev value : Rounding → Float
+  value mode = narrowed mode binary32 (ofBits binary64 b)
+
+  pub narrow-number : (mode : Rounding) (bits : ℕ) (x o t : Bool) → mode ≡ roundingOf control → b % 0x8000_0000_0000_0000 ≤ 0x7FF0_0000_0000_0000 → IsNarrowed mode binary32 (ofBits binary64 b) bits x o t
+      → Narrows control b (flush binary32 control bits) (flushedExceptions binary32 control bits (settledExceptions x o t))
+  unfolding narrow narrowNumber narrowExceptions
+  narrow-number mode bits x o t g h p = (
+    ap (flush binary32 control) (p .bits-are ∙ ap (λ (z : Rounding). toBits binary32 (value z)) g) ∙ by _ _,
+    ap (λ (w : ℕ). flushedExceptions binary32 control w (settledExceptions x o t)) (p .bits-are)
+        ∙ ap (flushedExceptions binary32 control (toBits binary32 (value mode))) (settled-raises mode binary32 (ofBits binary64 b) bits x o t p)
+        ∙ ap (λ (z : Rounding). flushedExceptions binary32 control (toBits binary32 (value z)) (narrowedExceptions z binary32 (ofBits binary64 b))) g
+        ∙ by _ _,
+  )
+    where
+      by : (y z : ℕ) → z ≡ cond (nanBits binary64 b) y z
+      by y z = sym (ap (λ (t : Bool). cond t y z) (no-nan binary64 b h))
+
+  pub narrow-resized : (bits raised : ℕ) → 0x7FF0_0000_0000_0000 < b % 0x8000_0000_0000_0000 → bits ≡ resized binary64 binary32 control b → raised ≡ nanExceptions binary64 b b → Narrows control b bits raised
+  unfolding narrow narrowExceptions
+  narrow-resized bits raised h e d = (e ∙ by _ _, d ∙ by _ _)
+    where
+      by : (y z : ℕ) → y ≡ cond (nanBits binary64 b) y z
+      by y z = sym (ap (λ (t : Bool). cond t y z) (a-nan binary64 b h))
 
 -- ---- a normal single, or what is too large for one, from the double's pattern as it stands
 
@@ -244,11 +276,11 @@ module _ (mode : Rounding) (b : ℕ) (h : 0x3810_0000_0000_0000 ≤ b % 0x8000_0
   parts : b % 0x8000_0000_0000_0000 - 0x3800_0000_0000_0000 ≡ (field b - 897) * 2 ^ 52 + (2 ^ 52 + digits b)
   parts = omega arith
 
-  normal-bits : toBits binary32 (narrowed mode binary32 (ofBits binary64 b)) ≡ packed mode binary32 (neg b) (field b - 897) (cutTo mode (neg b) (2 ^ 52 + digits b) (2 ^ 29))
-  normal-bits =
-      let m = 2 ^ 52 + digits b in
-      ap (toBits binary32) (narrowed-value mode binary32 (ofBits binary64 b) (neg b) (m * 2 ^ (field b - 1)) (2 ^ 1074) (pow-pos 1074) (reads-normal binary64 b (some (field b) (fields .0)) (few (field b) (fields .1))))
-      ∙ rounded-bits mode binary32 (neg b) (m * 2 ^ (field b - 1)) (2 ^ 1074) (field b - 897) m (2 ^ 29) (pow-pos 1074) (pow-pos 29) (scale m (field b) (fields .0)) (under b) (inr (lead b))
+  abbrev m : ℕ
+  m = 2 ^ 52 + digits b
+
+  valued : HasValue (ofBits binary64 b) (neg b) (m * 2 ^ (field b - 1)) (2 ^ 1074)
+  valued = reads-normal binary64 b (some (field b) (fields .0)) (few (field b) (fields .1))
     where
       some : (x : ℕ) → 897 ≤ x → x ≡ 0 → ⊥
       some x g e = omega arith
@@ -256,20 +288,36 @@ module _ (mode : Rounding) (b : ℕ) (h : 0x3810_0000_0000_0000 ≤ b % 0x8000_0
       few : (x : ℕ) → x < 1151 → x ≡ 2047 → ⊥
       few x g e = omega arith
 
+  scale : m * 2 ^ (field b - 1) * 2 ^ 149 * 2 ^ 29 ≡ m * (2 ^ 1074 * 2 ^ (field b - 897))
+  scale = go m (field b) (fields .0)
+    where
       exps : (x : ℕ) → 897 ≤ x → x - 1 + 149 + 29 ≡ 1074 + (x - 897)
       exps x g = omega arith
 
-      scale : (m x : ℕ) → 897 ≤ x → m * 2 ^ (x - 1) * 2 ^ 149 * 2 ^ 29 ≡ m * (2 ^ 1074 * 2 ^ (x - 897))
-      scale m x g =
+      go : (m x : ℕ) → 897 ≤ x → m * 2 ^ (x - 1) * 2 ^ 149 * 2 ^ 29 ≡ m * (2 ^ 1074 * 2 ^ (x - 897))
+      go m x g =
           ap (λ (z : ℕ). z * 2 ^ 29) (mul-assoc m (2 ^ (x - 1)) (2 ^ 149) ∙ ap (λ (z : ℕ). m * z) (sym (pow-add 2 (x - 1) 149)))
           ∙ slide m (x - 1 + 149) 29 1074 (x - 897) (exps x g)
           ∙ mul-assoc m (2 ^ 1074) (2 ^ (x - 897))
 
-      under : (b : ℕ) → (2 ^ 52 + digits b) / 2 ^ 29 < 2 ^ 24
-      under b = omega arith
+  under : m / 2 ^ 29 < 2 ^ 24
+  under = omega arith
 
-      lead : (b : ℕ) → 2 ^ 23 ≤ (2 ^ 52 + digits b) / 2 ^ 29
-      lead b = omega arith
+  lead : 2 ^ 23 ≤ m / 2 ^ 29
+  lead = omega arith
+
+  -- the stage's numbers, of which 29 digits are dropped
+  normal-settled : IsSettled mode binary32 (neg b) (m * 2 ^ (field b - 1)) (2 ^ 1074) (packed mode binary32 (neg b) (field b - 897) (cutTo mode (neg b) m (2 ^ 29))) (eqb (m % 2 ^ 29) 0)
+      (leb 0x7F80_0000 ((field b - 897) * 0x80_0000 + cutTo mode (neg b) m (2 ^ 29))) false
+  normal-settled = record {
+    bits-are = sym (rounded-bits mode binary32 (neg b) (m * 2 ^ (field b - 1)) (2 ^ 1074) (field b - 897) m (2 ^ 29) (pow-pos 1074) (pow-pos 29) scale under (inr lead));
+    exact-is = sym (exact-is mode binary32 (neg b) (m * 2 ^ (field b - 1)) (2 ^ 1074) (field b - 897) m (2 ^ 29) (pow-pos 1074) (pow-pos 29) scale under (inr lead));
+    over-is = sym (over-is mode binary32 (neg b) (m * 2 ^ (field b - 1)) (2 ^ 1074) (field b - 897) m (2 ^ 29) (pow-pos 1074) (pow-pos 29) scale under (inr lead));
+    tiny-is =
+        sym (and-false (ltb 0 m))
+        ∙ ap (λ (t : Bool). ltb 0 m && t) (sym (le-ltb (m / 2 ^ 29) 0x80_0000 lead))
+        ∙ sym (tiny-is mode binary32 (neg b) (m * 2 ^ (field b - 1)) (2 ^ 1074) (field b - 897) m (2 ^ 29) (pow-pos 1074) (pow-pos 29) scale under (inr lead));
+  }
 
   abbrev X : ℕ
   X = b % 0x8000_0000_0000_0000 - 0x3800_0000_0000_0000
@@ -283,23 +331,30 @@ module _ (mode : Rounding) (b : ℕ) (h : 0x3810_0000_0000_0000 ≤ b % 0x8000_0
   pub normal-lowered : (kept : ℕ) → kept ≡ cutTo mode (neg b) (b % 0x8000_0000_0000_0000) (2 ^ 29) → (0x1_C000_0000 ≤ kept) × (kept - 0x1_C000_0000 ≡ cutTo mode (neg b) X (2 ^ 29))
   normal-lowered kept p = lowered mode (neg b) (b % 0x8000_0000_0000_0000) kept (omega arith) p
 
-  pub narrow-normal : (control kept r : ℕ) → mode ≡ roundingOf control → b < 2 ^ 64 → kept ≡ cutTo mode (neg b) X (2 ^ 29)
-      → r ≡ b / 0x8000_0000_0000_0000 * 0x8000_0000 + kept → r ≡ narrowNumber control b
-  unfolding narrowNumber
-  narrow-normal control kept r g w p e =
-      let most = kept-most mode (neg b) X kept p X-lt in
-      let least = kept-least mode (neg b) X kept p (lower b h) in
-      let is = apart mode (neg b) X kept p (field b - 897) (2 ^ 52 + digits b) parts in
-      flush-large binary32 control r (subst (λ (z : ℕ). 2 ^ 23 ≤ z) (sym (rest (b / 0x8000_0000_0000_0000) kept r e most)) least)
-      ∙ ap (flush binary32 control)
+  pub narrow-normal : (control kept bits raised : ℕ) → mode ≡ roundingOf control → b < 2 ^ 64 → kept ≡ cutTo mode (neg b) X (2 ^ 29) → bits ≡ b / 2 ^ 63 * 2 ^ 31 + kept
+      → raised ≡ settledExceptions (eqb (b % 2 ^ 29) 0) (leb 0x7F80_0000 kept) false → Narrows control b bits raised
+  narrow-normal control kept bits raised g w p e d =
+      let is = apart mode (neg b) X kept p (field b - 897) m parts in
+      let large : 2 ^ 23 ≤ bits % 0x8000_0000 = subst (λ (z : ℕ). 2 ^ 23 ≤ z) (sym (rest (b / 0x8000_0000_0000_0000) kept bits e (kept-most mode (neg b) X kept p X-lt))) (kept-least mode (neg b) X kept p (lower b h)) in
+      let q = narrow-number control b mode bits (eqb (b % 2 ^ 29) 0) (leb 0x7F80_0000 kept) false g (below b l)
+      (subst (λ (z : ℕ). IsNarrowed mode binary32 (ofBits binary64 b) bits (eqb z 0) (leb 0x7F80_0000 kept) false) (left b)
+      (subst (λ (z : ℕ). IsNarrowed mode binary32 (ofBits binary64 b) bits (eqb (m % 2 ^ 29) 0) (leb 0x7F80_0000 z) false) (sym is)
+      (subst (λ (z : ℕ). IsNarrowed mode binary32 (ofBits binary64 b) z (eqb (m % 2 ^ 29) 0) (leb 0x7F80_0000 ((field b - 897) * 0x80_0000 + cutTo mode (neg b) m (2 ^ 29))) false)
+      (sym
       (e
       ∙ ap (λ (z : ℕ). z + kept) (sign-bit 0x8000_0000_0000_0000 b 0x8000_0000 (lit< tt) w)
-      ∙ ap (λ (z : ℕ). cond (neg b) 0x8000_0000 0 + z) (sym (min-eq-left (kept-under mode (neg b) X kept p X-lt)) ∙ ap (λ (z : ℕ). min z (ceiling mode binary32 (neg b))) is)
-      ∙ sym normal-bits
-      ∙ ap (λ (z : Rounding). toBits binary32 (narrowed z binary32 (ofBits binary64 b))) g)
+      ∙ ap (λ (z : ℕ). cond (neg b) 0x8000_0000 0 + z) (sym (min-eq-left (kept-under mode (neg b) X kept p X-lt)) ∙ ap (λ (z : ℕ). min z (ceiling mode binary32 (neg b))) is)))
+      (settled-narrowed mode binary32 (ofBits binary64 b) (neg b) (m * 2 ^ (field b - 1)) (2 ^ 1074) _ _ _ _ (pow-pos 1074) valued normal-settled)))) in
+      (flush-large binary32 control bits large ∙ q .0, d ∙ sym (flushed-none binary32 control bits _ (inr large)) ∙ q .1)
     where
       lower : (b : ℕ) → 0x3810_0000_0000_0000 ≤ b % 0x8000_0000_0000_0000 → 2 ^ 52 ≤ b % 0x8000_0000_0000_0000 - 0x3800_0000_0000_0000
       lower b h = omega arith
+
+      below : (b : ℕ) → b % 0x8000_0000_0000_0000 < 0x47F0_0000_0000_0000 → b % 0x8000_0000_0000_0000 ≤ 0x7FF0_0000_0000_0000
+      below b l = omega arith
+
+      left : (b : ℕ) → (2 ^ 52 + digits b) % 2 ^ 29 ≡ b % 2 ^ 29
+      left b = omega arith
 
       rest : (s kept r : ℕ) → r ≡ s * 0x8000_0000 + kept → kept ≤ 0x7F80_0000 → r % 0x8000_0000 ≡ kept
       rest s kept r e h = omega arith

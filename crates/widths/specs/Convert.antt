@@ -5,6 +5,7 @@ use mathlib.Core.Bool.{Bool, true, false, cond}
 use lib.Ieee.{Float, nan, inf, fin, Format, binary32, binary64, up, down, ofBits, toBits, nanBits}
 use Rattle.floats.specs.Flush.{flush}
 use Rattle.nans.specs.Nan.{resized}
+use Rattle.exceptions.specs.Exceptions.{fractionExceptions, nanExceptions, flushedExceptions}
 use Rattle.rounding.specs.Rounding.{roundingOf, rounded, exact, over, tiny}
 use Rattle.rounding.specs.declared.rounding.Rounding.{Rounding}
 
@@ -36,6 +37,26 @@ narrow control b = cond (nanBits binary64 b) (resized binary64 binary32 control 
 unfoldable pub widen : ℕ → ℕ → ℕ
 unfolding widenNumber
 widen control b = cond (nanBits binary32 b) (resized binary32 binary64 control b) (widenNumber b)
+
+-- ---- what they raise
+
+-- a value of any format at the format f: what is not finite is not rounded
+unfoldable pub narrowedExceptions : Rounding → Format → Float → ℕ
+unfolding fractionExceptions
+narrowedExceptions mode f nan = 0
+narrowedExceptions mode f (inf s) = 0
+narrowedExceptions mode f (fin s m e) = fractionExceptions mode f s (m * up e) (down e)
+
+unfoldable pub narrowExceptions : ℕ → ℕ → ℕ
+unfolding narrowed narrowedExceptions
+narrowExceptions control b =
+    let mode = roundingOf control in
+    let v = ofBits binary64 b in
+    cond (nanBits binary64 b) (nanExceptions binary64 b b) (flushedExceptions binary32 control (toBits binary32 (narrowed mode binary32 v)) (narrowedExceptions mode binary32 v))
+
+-- a double has room for every single
+abbrev pub widenExceptions : ℕ → ℕ
+widenExceptions b = nanExceptions binary32 b b
 
 -- what the code's narrowing gives
 pub record IsNarrowed (mode : Rounding) (f : Format) (v : Float) (bits : ℕ) (x o t : Bool) : Type 0 where

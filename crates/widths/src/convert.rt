@@ -1,9 +1,18 @@
 // Conversions between the widths, by integer work on the bits.
 ghost use mathlib.Core.Path.{_≡_};
-ghost use Prim.Native.Nat.{ℕ, _/_, _%_, _<_, _^_};
+ghost use mathlib.Core.Bool.{false};
+ghost use Prim.Native.Nat.{ℕ, _+_, _*_, _/_, _%_, _≤_, _<_, _^_};
+ghost use lib.Dec.{leb, eqb};
 ghost use lib.Ieee.{binary32, binary64, ofBits};
 ghost use Rattle.rounding.specs.Rounding.{roundingOf, cutTo, increment, IsCut};
-ghost use Rattle.widths.specs.Convert.{IsNarrowed, narrow, widen};
+ghost use Rattle.exceptions.specs.Exceptions.{settledExceptions};
+ghost use Rattle.widths.specs.Convert.{IsNarrowed, narrow, widen, narrowExceptions, widenExceptions};
+use exceptions::exceptions::Raised32;
+use exceptions::exceptions::Raised64;
+use exceptions::exceptions::flushed_exceptions32;
+use exceptions::exceptions::nan_exceptions32;
+use exceptions::exceptions::nan_exceptions64;
+use exceptions::exceptions::settled;
 use floats::flush::flush32;
 use nans::nan::narrowed_nan;
 use nans::nan::widened_nan;
@@ -17,7 +26,7 @@ use rounding::rounding::cut;
 use rounding::rounding::rounding_of;
 
 // A single's word as the bits of the double of the same value, or its NaN. A subnormal is moved up by its leading zeros.
-pub fn widen(control: u32, b: u32) -> u64
+fn widened(control: u32, b: u32) -> u64
     ensures { λ r. ⌜ r ≡ widen control b ⌝ }
 {
     let w = b as u64;
@@ -38,6 +47,16 @@ pub fn widen(control: u32, b: u32) -> u64
     let t = w % 0x80_0000;
     let up = lift(t);
     sign + ((925 - up) * 0x10_0000_0000_0000 + (t << up))
+}
+
+// The same, and what it raises.
+pub fn widen(control: u32, b: u32) -> Raised64
+    ensures { λ r. ⌜ (r .bits ≡ widen control b) × (r .exceptions ≡ widenExceptions b) ⌝ }
+{
+    Raised64 {
+        bits: widened(control, b),
+        exceptions: nan_exceptions32(b, b),
+    }
 }
 
 // A double's bits as the single that the mode asks for, rounded once.
@@ -114,10 +133,22 @@ pub fn shorten(control: u32, negative: bool, m: u64) -> Rounded
     }
 }
 
-// The single that the mode asks for, flushed as a single. Where a normal double becomes a normal single, or is too large by its last digits alone, its
-// pattern is cut as it stands: in mode 00 by one sum.
-pub fn narrow(control: u32, b: u64) -> u32
-    ensures { λ r. ⌜ r ≡ narrow control b ⌝ }
+// The kept digits of a normal double, which are the pattern of a normal single or, where they are too large, of the infinity; with its sign, and what
+// rounding raised. The 29 digits that a single drops tell what was left.
+fn signed(b: u64, kept: u64) -> Raised32
+    requires { ⌜ kept ≤ 0x7F80_0000 ⌝ }
+    ensures { λ r. ⌜ (r .bits ≡ b / 2 ^ 63 * 2 ^ 31 + kept) × (r .exceptions ≡ settledExceptions (eqb (b % 2 ^ 29) 0) (leb 0x7F80_0000 kept) false) ⌝ }
+{
+    Raised32 {
+        bits: (b / 0x8000_0000_0000_0000 * 0x8000_0000 + kept) as u32,
+        exceptions: settled(b % 0x2000_0000 == 0, kept >= 0x7F80_0000, false),
+    }
+}
+
+// The single that the mode asks for, flushed as a single, and what it raises. Where a normal double becomes a normal single, or is too large by its
+// last digits alone, its pattern is cut as it stands: in mode 00 by one sum.
+pub fn narrow(control: u32, b: u64) -> Raised32
+    ensures { λ r. ⌜ (r .bits ≡ narrow control b) × (r .exceptions ≡ narrowExceptions control b) ⌝ }
 {
     let negative = b >= 0x8000_0000_0000_0000;
     let size = b % 0x8000_0000_0000_0000;
@@ -130,20 +161,25 @@ pub fn narrow(control: u32, b: u64) -> u32
                     size - 0x3800_0000_0000_0000,
                     29,
                 );
-                return (b / 0x8000_0000_0000_0000 * 0x8000_0000 + c.kept) as u32;
+                return signed(b, c.kept);
             }
         }
     } else {
         if size >= 0x3810_0000_0000_0000 {
             if size < 0x47F0_0000_0000_0000 {
-                let kept = directed(control, negative, size) - 0x1_C000_0000;
-                return (b / 0x8000_0000_0000_0000 * 0x8000_0000 + kept) as u32;
+                return signed(b, directed(control, negative, size) - 0x1_C000_0000);
             }
         }
     }
     if size > 0x7FF0_0000_0000_0000 {
-        return narrowed_nan(control, b);
+        return Raised32 {
+            bits: narrowed_nan(control, b),
+            exceptions: nan_exceptions64(b, b),
+        };
     }
     let r = narrowed32(rounding_of(control), b);
-    flush32(control, r.bits)
+    Raised32 {
+        bits: flush32(control, r.bits),
+        exceptions: flushed_exceptions32(control, r.bits, settled(r.exact, r.over, r.tiny)),
+    }
 }

@@ -5,7 +5,7 @@ use mathlib.Core.Path.{sym}
 use borrow.Author.Needs.{needs}
 use Rattle.machine.specs.Machine.{withS}
 use Rattle.machine.specs.Place.{state}
-use Rattle.arithmetic_steps.proofs.Steps.{rounded-step}
+use Rattle.arithmetic_steps.proofs.Steps.{arithmetic-step}
 use Rattle.arithmetic_steps.proofs.arithmetic.rounded_single.Statement.{statement}
 use Rattle.arithmetic_steps.proofs.arithmetic.rounded_single.Tie as tie
 
@@ -18,5 +18,4 @@ rounded-single-spec =
     (λ c κs. search needs)
     (λ c κs. search needs)
     (λ c κs. search needs)
-    (λ c κs. search needs)
-    (λ c q v. let a = c .before .before .before .before .before .before .before .before .before .before .args in rw (c .put .ensures, c .before .before .flush32 .ensures, c .before .before .before .directed32 .ensures, c .before .before .before .before .before .before .before .before .get .ensures, c .before .before .before .before .before .before .get2 .ensures, c .before .before .before .before .get3 .ensures) (sym (rounded-step binary32 (a .control) (a .kind) (a .d .0) (a .n .0) (a .m .0) (state (withS q (now (a .s))) v)))))
+    (λ c q v. let a = c .before .before .before .before .before .before .before .before .before .args in rw (c .put .ensures, c .before .before .directed32 .ensures .0, c .before .before .before .before .before .before .before .get .ensures, c .before .before .before .before .before .get2 .ensures, c .before .before .before .get3 .ensures) (sym (arithmetic-step binary32 (a .control) (a .kind) (a .d .0) (a .n .0) (a .m .0) (state (withS q (now (a .s))) v)))))

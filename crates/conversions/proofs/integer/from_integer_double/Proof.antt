@@ -11,4 +11,4 @@ from-integer-double-spec =
     (λ c κs. search needs)
     (λ c κs. search needs)
     (λ c κs. search needs)
-    (λ c q v. rw (c .set-double .ensures, c .before .before .from-integer64 .ensures Nearest, c .before .before .before .get-single .ensures)))
+    (λ c q v. rw (c .set-double .ensures, c .before .before .from-integer64 .ensures .0 Nearest, c .before .before .before .get-single .ensures)))

@@ -11,4 +11,4 @@ round-double-spec =
     (λ c κs. search needs)
     (λ c κs. search needs)
     (λ c κs. search needs)
-    (λ c q v. rw (c .set-single .ensures, c .before .before .to-integer64 .ensures, c .before .before .before .before .before .rounding-of .ensures, c .before .before .before .get-double .ensures)))
+    (λ c q v. rw (c .set-single .ensures, c .before .before .to-integer64 .ensures .0, c .before .before .before .before .before .rounding-of .ensures, c .before .before .before .get-double .ensures)))

@@ -10,4 +10,4 @@ truncate-double-spec =
     (λ c κs. search needs)
     (λ c κs. search needs)
     (λ c κs. search needs)
-    (λ c q v. rw (c .set-single .ensures, c .before .before .to-integer64 .ensures, c .before .before .before .get-double .ensures)))
+    (λ c q v. rw (c .set-single .ensures, c .before .before .to-integer64 .ensures .0, c .before .before .before .get-double .ensures)))

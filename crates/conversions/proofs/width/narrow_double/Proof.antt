@@ -10,4 +10,4 @@ narrow-double-spec =
     (λ c κs. search needs)
     (λ c κs. search needs)
     (λ c κs. search needs)
-    (λ c q v. rw (c .set-single .ensures, c .before .before .narrow .ensures, c .before .before .before .get-double .ensures)))
+    (λ c q v. rw (c .set-single .ensures, c .before .before .narrow .ensures .0, c .before .before .before .get-double .ensures)))

@@ -10,4 +10,4 @@ widen-single-spec =
     (λ c κs. search needs)
     (λ c κs. search needs)
     (λ c κs. search needs)
-    (λ c q v. rw (c .set-double .ensures, c .before .before .widen .ensures, c .before .before .before .get-single .ensures)))
+    (λ c q v. rw (c .set-double .ensures, c .before .before .widen .ensures .0, c .before .before .before .get-single .ensures)))

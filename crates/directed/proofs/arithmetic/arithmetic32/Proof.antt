@@ -1,18 +1,8 @@
 -- `directed::arithmetic::arithmetic32` meets its contract. Assumes nothing.
-use mathlib.Core.Path.{ap, _∙_}
-use lib.Ieee.{binary32}
-use Rattle.floats.specs.Flush.{flush}
-use Rattle.directed.specs.Directed.{arithmeticBy}
 use borrow.Author.Needs.{needs}
 use Rattle.directed.proofs.arithmetic.arithmetic32.Statement.{statement}
 use Rattle.directed.proofs.arithmetic.arithmetic32.Tie as tie
 
-returns : tie.Need-returns
-returns c = c .before .quick32 .ensures (c .if1 .taken)
-
-returns-2 : tie.Need-returns-2
-unfolding arithmeticBy
-returns-2 c = c .flush32 .ensures ∙ ap (flush binary32 (c .before .before .before .before .args .control)) (c .before .directed32 .ensures)
-
 pub arithmetic32-spec : {M : Type 1} → statement M
-arithmetic32-spec = tie.close (tie.spec (λ c κs. search needs) returns (λ c κs. search needs) (λ c κs. search needs) returns-2)
+arithmetic32-spec =
+    tie.close (tie.spec (λ c κs. search needs) (λ c. c .before .quick32 .ensures (c .if1 .taken)) (λ c κs. search needs) (λ c. c .directed32 .ensures .0))

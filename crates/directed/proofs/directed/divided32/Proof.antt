@@ -1,10 +1,8 @@
 -- `directed::directed::divided32` meets its contract. Assumes nothing.
-use mathlib.Core.Path.{ap, _∙_}
+use Rattle.directed.proofs.Composing.{nans-give, numbers-give}
+use Rattle.exceptions.specs.Operators.{quotientExceptions}
+use Rattle.operators.specs.Operators.{quotient}
 use lib.Ieee.{binary32}
-use Rattle.rounding.specs.Rounding.{roundingOf}
-use Rattle.rounding.specs.declared.rounding.Rounding.{Rounding}
-use Rattle.operators.specs.Operators.{quotient, onWords}
-use Rattle.nans.proofs.Choosing.{nans-operated, numbers-operated}
 use borrow.Author.Needs.{needs}
 use Rattle.directed.proofs.directed.divided32.Statement.{statement}
 use Rattle.directed.proofs.directed.divided32.Tie as tie
@@ -15,13 +13,11 @@ is-nan32-requires c κs = search needs
 is-nan32-requires-2 : tie.Need-is-nan32-requires-2
 is-nan32-requires-2 c κs = search needs
 
-nan-of32-requires : tie.Need-nan-of32-requires
-nan-of32-requires c κs = search needs
+nan32-requires : tie.Need-nan32-requires
+nan32-requires c κs = search needs
 
 returns : tie.Need-returns
-returns c =
-    c .nan-of32 .ensures
-    ∙ nans-operated binary32 _ (quotient (roundingOf (c .before .before .before .before .args .control)) binary32) _ _ _ _ (c .before .before .before .is-nan32 .ensures) (c .before .before .is-nan322 .ensures) (c .before .if1 .taken)
+returns c = nans-give quotient quotientExceptions binary32 (c .before .before .before .before .args .control) (c .before .before .before .before .args .a) (c .before .before .before .before .args .b) _ _ _ _ (c .before .before .before .is-nan32 .ensures) (c .before .before .is-nan322 .ensures) (c .nan32 .ensures) (c .before .if1 .taken)
 
 rounding-of-requires : tie.Need-rounding-of-requires
 rounding-of-requires c κs = search needs
@@ -30,10 +26,16 @@ quotient32-requires : tie.Need-quotient32-requires
 quotient32-requires c κs = search needs
 
 returns-2 : tie.Need-returns-2
-returns-2 c =
-    c .quotient32 .ensures
-    ∙ ap (λ (mode : Rounding). onWords binary32 (quotient mode binary32) (c .before .before .before .before .before .args .a) (c .before .before .before .before .before .args .b)) (c .before .rounding-of .ensures)
-    ∙ numbers-operated binary32 _ (quotient (roundingOf (c .before .before .before .before .before .args .control)) binary32) _ _ _ _ (c .before .before .before .before .is-nan32 .ensures) (c .before .before .before .is-nan322 .ensures) (c .before .before .if1 .left)
+returns-2 c = numbers-give quotient quotientExceptions binary32 (c .before .before .before .before .before .args .control) (c .before .before .before .before .before .args .a) (c .before .before .before .before .before .args .b) _ _ _ _ (c .before .before .before .before .is-nan32 .ensures) (c .before .before .before .is-nan322 .ensures) _ (c .before .rounding-of .ensures) (c .quotient32 .ensures) (c .before .before .if1 .left)
 
 pub divided32-spec : {M : Type 1} → statement M
-divided32-spec = tie.close (tie.spec is-nan32-requires is-nan32-requires-2 nan-of32-requires returns rounding-of-requires quotient32-requires returns-2)
+divided32-spec =
+    tie.close
+    (tie.spec
+    is-nan32-requires
+    is-nan32-requires-2
+    nan32-requires
+    returns
+    rounding-of-requires
+    quotient32-requires
+    returns-2)

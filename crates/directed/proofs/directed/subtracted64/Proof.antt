@@ -1,11 +1,8 @@
 -- `directed::directed::subtracted64` meets its contract. Assumes nothing.
-use mathlib.Core.Path.{ap, _∙_}
+use Rattle.directed.proofs.Composing.{difference-by, nans-give, numbers-give}
+use Rattle.exceptions.specs.Operators.{differenceExceptions}
+use Rattle.operators.specs.Operators.{difference}
 use lib.Ieee.{binary64}
-use Rattle.rounding.specs.Rounding.{roundingOf}
-use Rattle.rounding.specs.declared.rounding.Rounding.{Rounding}
-use Rattle.operators.specs.Operators.{difference, onWords}
-use Rattle.nans.proofs.Choosing.{nans-operated, numbers-operated}
-use Rattle.directed.proofs.Values.{difference-by}
 use borrow.Author.Needs.{needs}
 use Rattle.directed.proofs.directed.subtracted64.Statement.{statement}
 use Rattle.directed.proofs.directed.subtracted64.Tie as tie
@@ -16,13 +13,11 @@ is-nan64-requires c κs = search needs
 is-nan64-requires-2 : tie.Need-is-nan64-requires-2
 is-nan64-requires-2 c κs = search needs
 
-nan-of64-requires : tie.Need-nan-of64-requires
-nan-of64-requires c κs = search needs
+nan64-requires : tie.Need-nan64-requires
+nan64-requires c κs = search needs
 
 returns : tie.Need-returns
-returns c =
-    c .nan-of64 .ensures
-    ∙ nans-operated binary64 _ (difference (roundingOf (c .before .before .before .before .args .control)) binary64) _ _ _ _ (c .before .before .before .is-nan64 .ensures) (c .before .before .is-nan642 .ensures) (c .before .if1 .taken)
+returns c = nans-give difference differenceExceptions binary64 (c .before .before .before .before .args .control) (c .before .before .before .before .args .a) (c .before .before .before .before .args .less) _ _ _ _ (c .before .before .before .is-nan64 .ensures) (c .before .before .is-nan642 .ensures) (c .nan64 .ensures) (c .before .if1 .taken)
 
 rounding-of-requires : tie.Need-rounding-of-requires
 rounding-of-requires c κs = search needs
@@ -34,10 +29,17 @@ sum64-requires : tie.Need-sum64-requires
 sum64-requires c κs = search needs
 
 returns-2 : tie.Need-returns-2
-returns-2 c =
-    difference-by _ binary64 (c .before .before .before .before .before .before .args .a) (c .before .before .before .before .before .before .args .less) _ _ (c .sum64 .ensures) (c .before .negate64 .ensures)
-    ∙ ap (λ (mode : Rounding). onWords binary64 (difference mode binary64) (c .before .before .before .before .before .before .args .a) (c .before .before .before .before .before .before .args .less)) (c .before .before .rounding-of .ensures)
-    ∙ numbers-operated binary64 _ (difference (roundingOf (c .before .before .before .before .before .before .args .control)) binary64) _ _ _ _ (c .before .before .before .before .before .is-nan64 .ensures) (c .before .before .before .before .is-nan642 .ensures) (c .before .before .before .if1 .left)
+returns-2 c = numbers-give difference differenceExceptions binary64 (c .before .before .before .before .before .before .args .control) (c .before .before .before .before .before .before .args .a) (c .before .before .before .before .before .before .args .less) _ _ _ _ (c .before .before .before .before .before .is-nan64 .ensures) (c .before .before .before .before .is-nan642 .ensures) _ (c .before .before .rounding-of .ensures) (difference-by _ binary64 _ _ _ _ _ (c .sum64 .ensures) (c .before .negate64 .ensures)) (c .before .before .before .if1 .left)
 
 pub subtracted64-spec : {M : Type 1} → statement M
-subtracted64-spec = tie.close (tie.spec is-nan64-requires is-nan64-requires-2 nan-of64-requires returns rounding-of-requires negate64-requires sum64-requires returns-2)
+subtracted64-spec =
+    tie.close
+    (tie.spec
+    is-nan64-requires
+    is-nan64-requires-2
+    nan64-requires
+    returns
+    rounding-of-requires
+    negate64-requires
+    sum64-requires
+    returns-2)

@@ -10,7 +10,7 @@ to-integer64-requires : tie.Need-to-integer64-requires
 to-integer64-requires c κs = search needs
 
 returns : tie.Need-returns
-returns c = by-widening (c .before .before .args .mode) (c .before .before .args .signed) _ (c .before .before .args .b) _ _ (c .before .before .fits .b .fits) (c .before .widen .ensures) (c .to-integer64 .ensures)
+returns c = by-widening (c .before .before .args .mode) (c .before .before .args .signed) _ (c .before .before .args .b) _ _ _ (c .before .before .fits .b .fits) (c .before .widen .ensures .0) (c .to-integer64 .ensures)
 
 pub to-integer32-spec : {M : Type 1} → statement M
 to-integer32-spec = tie.close (tie.spec widen-requires to-integer64-requires returns)

@@ -1,15 +1,12 @@
+-- `products::product::number_product32` meets its contract. Assumes nothing.
 use Rattle.products.proofs.Numbers.{short-bounds, short-product}
-use Rattle.digits.proofs.Raising.{settled-is}
+use mathlib.Core.Path.{refl}
 use native.Mathlib.Omega.{arith}
 use lib.Ieee.{binary32}
+use Rattle.exceptions.proofs.Values.{handed}
 use borrow.Author.Needs.{needs}
 use Rattle.products.proofs.product.number_product32.Statement.{statement}
 use Rattle.products.proofs.product.number_product32.Tie as tie
-use Rattle.products.proofs.product.number_product32.Reads as reads
-use Rattle.products.proofs.product.number_product32.Lts as lts
-use Rattle.digits.proofs.operand.operand32.Reads as operand32-reads
-use Rattle.digits.proofs.raise.raised32.Reads as raised32-reads
-use Rattle.digits.proofs.sign.unlike.Reads as unlike-reads
 
 operand32-requires : tie.Need-operand32-requires
 operand32-requires c κs = search needs
@@ -24,7 +21,7 @@ unlike-requires : tie.Need-unlike-requires
 unlike-requires c κs = search needs
 
 add-raised32 : tie.Need-add-raised32
-add-raised32 c = omega (arith, c .before .before .before .before .before .before .operand32 .ensures .0 .range, c .before .before .before .before .before .operand322 .ensures .0 .range)
+add-raised32 c = search needs
 
 add-raised32-2 : tie.Need-add-raised32-2
 add-raised32-2 c = search needs
@@ -32,8 +29,11 @@ add-raised32-2 c = search needs
 raised32-requires : tie.Need-raised32-requires
 raised32-requires c κs = (short-bounds _ _ _ _ _ _ _ _ (c .before .before .before .before .before .before .operand32 .ensures .0) (c .before .before .before .before .before .operand322 .ensures .0) .0, short-bounds _ _ _ _ _ _ _ _ (c .before .before .before .before .before .before .operand32 .ensures .0) (c .before .before .before .before .before .operand322 .ensures .0) .1, omega (arith, c .before .before .before .before .before .before .operand32 .ensures .0 .range, c .before .before .before .before .before .operand322 .ensures .0 .range))
 
+settled-requires : tie.Need-settled-requires
+settled-requires c κs = search needs
+
 returns : tie.Need-returns
-returns c = settled-is (c .before .before .before .before .before .before .before .before .args .mode) binary32 _ _ _ _ _ _ _ _ _ (c .raised32 .ensures) (c .before .before .before .unlike .ensures) (short-product (c .before .before .before .before .before .before .before .before .args .mode) binary32 _ _ _ _ _ _ _ _ (c .before .before .before .before .before .before .before .operand32 .ensures .0) (c .before .before .before .before .before .before .operand322 .ensures .0) (c .before .before .before .before .before .before .before .operand32 .ensures .1) (c .before .before .before .before .before .before .operand322 .ensures .1))
+returns c = handed (refl, c .settled .ensures) (short-product (c .before .before .before .before .before .before .before .before .before .args .mode) binary32 _ _ _ _ _ _ _ _ (c .before .before .before .before .before .before .before .before .operand32 .ensures .0) (c .before .before .before .before .before .before .before .operand322 .ensures .0) _ _ _ _ _ (c .before .before .before .before .before .before .before .before .operand32 .ensures .1) (c .before .before .before .before .before .before .before .operand322 .ensures .1) (c .before .before .before .before .unlike .ensures) (c .before .raised32 .ensures))
 
 pub number-product32-spec : {M : Type 1} → statement M
 number-product32-spec =
@@ -46,4 +46,5 @@ number-product32-spec =
     add-raised32
     add-raised32-2
     raised32-requires
+    settled-requires
     returns)

@@ -1,4 +1,4 @@
-use Rattle.roots.proofs.RootNear.{directed-is, used-most}
+use Rattle.roots.proofs.RootNear.{directed-is, down-exact, used-most}
 use Prim.Native.Nat.{_+_}
 use native.Mathlib.Omega.{arith}
 use borrow.Author.Needs.{needs}
@@ -23,29 +23,31 @@ one-if-requires-2 c κs = search needs
 add-steps : tie.Need-add-steps
 add-steps c = search needs
 
-add-result : tie.Need-add-result
-add-result c = search needs
+mul-taken : tie.Need-mul-taken
+mul-taken c = search needs
 
-mul-one-if-3 : tie.Need-mul-one-if-3
-mul-one-if-3 c = search needs
+add-taken : tie.Need-add-taken
+add-taken c = search needs
 
-add-one-if-2 : tie.Need-add-one-if-2
-add-one-if-2 c = search needs
+mul-taken-2 : tie.Need-mul-taken-2
+mul-taken-2 c = omega (arith, used-most (c .before .before .args .q) (c .before .one-if .result + c .one-if2 .result) (omega (arith, c .before .one-if .ensures .1, c .one-if2 .ensures .1)))
 
-mul-one-if-4 : tie.Need-mul-one-if-4
-mul-one-if-4 c = omega (arith, used-most (c .before .before .args .q) (c .before .one-if .result + c .one-if2 .result) (omega (arith, c .before .one-if .ensures .1, c .one-if2 .ensures .1)))
+add-t11 : tie.Need-add-t11
+add-t11 c = search needs
 
 one-if-requires-3 : tie.Need-one-if-requires-3
 one-if-requires-3 c κs = search needs
 
-add-result-2 : tie.Need-add-result-2
-add-result-2 c = search needs
+add-t10 : tie.Need-add-t10
+add-t10 c = search needs
 
 returns : tie.Need-returns
-returns c = record {
-  is = directed-is (c .before .before .before .args .q) (c .before .before .before .args .rest) (c .before .before .before .args .up) (c .before .before .one-if .result) (c .before .one-if2 .result) (c .one-if3 .result) (c .before .before .before .pre .1) (c .before .before .one-if .ensures .0) (c .before .one-if2 .ensures .0) (c .one-if3 .ensures .0);
-  below = omega (arith, c .before .before .one-if .ensures .1, c .before .one-if2 .ensures .1, c .one-if3 .ensures .1);
-}
+returns c = let a = c .before .before .before .args in
+    record {
+      kept-is = directed-is (a .q) (a .rest) (a .up) (c .before .before .one-if .result) (c .before .one-if2 .result) (c .one-if3 .result) (c .before .before .before .pre .1) (c .before .before .one-if .ensures .0) (c .before .one-if2 .ensures .0) (c .one-if3 .ensures .0);
+      below = omega (arith, c .before .before .one-if .ensures .1, c .before .one-if2 .ensures .1, c .one-if3 .ensures .1);
+      exact-is = down-exact (a .q) (a .rest) (c .before .before .one-if .result) (c .before .one-if2 .result) (c .before .before .before .pre .1) (c .before .before .one-if .ensures .0) (c .before .one-if2 .ensures .0);
+    }
 
 pub directed-root-spec : {M : Type 1} → statement M
 directed-root-spec =
@@ -57,10 +59,10 @@ directed-root-spec =
     add-one-if
     one-if-requires-2
     add-steps
-    add-result
-    mul-one-if-3
-    add-one-if-2
-    mul-one-if-4
+    mul-taken
+    add-taken
+    mul-taken-2
+    add-t11
     one-if-requires-3
-    add-result-2
+    add-t10
     returns)

@@ -1,14 +1,14 @@
+use Rattle.rounding.specs.declared.rounding.Rounding.the-variants.{Nearest}
+use Rattle.roots.proofs.RootNear.{near-is, used-most}
+use Rattle.roots.proofs.RootDigits.{steps-exact}
+use Prim.Native.Nat.{_+_}
 use native.Mathlib.Omega.{arith}
-use Rattle.roots.proofs.RootNear.{near-is}
 use borrow.Author.Needs.{needs}
 use Rattle.roots.proofs.root.nearest_root.Statement.{statement}
 use Rattle.roots.proofs.root.nearest_root.Tie as tie
 
 one-if-requires : tie.Need-one-if-requires
 one-if-requires c κs = search needs
-
-add-result : tie.Need-add-result
-add-result c = search needs
 
 mul-one-if : tie.Need-mul-one-if
 mul-one-if c = search needs
@@ -19,23 +19,41 @@ add-one-if c = search needs
 one-if-requires-2 : tie.Need-one-if-requires-2
 one-if-requires-2 c κs = search needs
 
-add-result-2 : tie.Need-add-result-2
-add-result-2 c = search needs
+add-steps : tie.Need-add-steps
+add-steps c = search needs
+
+add-t4 : tie.Need-add-t4
+add-t4 c = search needs
+
+mul-t6 : tie.Need-mul-t6
+mul-t6 c = search needs
+
+add-t8 : tie.Need-add-t8
+add-t8 c = search needs
+
+mul-t7 : tie.Need-mul-t7
+mul-t7 c = omega (arith, used-most (c .before .before .args .q) (c .before .one-if .result + c .one-if2 .result) (omega (arith, c .before .one-if .ensures .1, c .one-if2 .ensures .1)))
 
 returns : tie.Need-returns
-returns c = record {
-  is = near-is (c .before .before .args .q) (c .before .before .args .rest) (c .before .one-if .result) (c .one-if2 .result) (c .before .before .pre .1) (c .before .one-if .ensures .0) (c .one-if2 .ensures .0);
-  below = omega (arith, c .before .one-if .ensures .1, c .one-if2 .ensures .1);
-}
+returns c = let a = c .before .before .args in
+    let is = near-is (a .q) (a .rest) (c .before .one-if .result) (c .one-if2 .result) (c .before .before .pre .1) (c .before .one-if .ensures .0) (c .one-if2 .ensures .0) in
+    record {
+      kept-is = is;
+      below = omega (arith, c .before .one-if .ensures .1, c .one-if2 .ensures .1);
+      exact-is = steps-exact Nearest (a .q) (a .rest) (c .before .one-if .result + c .one-if2 .result) is;
+    }
 
 pub nearest-root-spec : {M : Type 1} → statement M
 nearest-root-spec =
     tie.close
     (tie.spec
     one-if-requires
-    add-result
     mul-one-if
     add-one-if
     one-if-requires-2
-    add-result-2
+    add-steps
+    add-t4
+    mul-t6
+    add-t8
+    mul-t7
     returns)

@@ -1,10 +1,10 @@
-use Rattle.roots.proofs.RootNear.{found, near-word}
-use Rattle.rounding.specs.declared.rounding.Rounding.the-variants.{Nearest}
-use Prim.Native.Nat.{_*_, _/_, _^_}
-use lib.Ieee.{binary32}
-use native.Mathlib.Omega.{arith}
-use mathlib.Core.Path.{refl}
 use Rattle.nans.proofs.Choosing.{no-nan}
+use mathlib.Core.Path.{refl}
+use native.Mathlib.Omega.{arith}
+use lib.Ieee.{binary32}
+use Prim.Native.Nat.{_*_, _/_, _^_}
+use Rattle.rounding.specs.declared.rounding.Rounding.the-variants.{Nearest}
+use Rattle.roots.proofs.RootNear.{found, near-word}
 use borrow.Author.Needs.{needs}
 use Rattle.roots.proofs.root.quick_root32.Statement.{statement}
 use Rattle.roots.proofs.root.quick_root32.Tie as tie
@@ -25,13 +25,11 @@ nearest-root-requires : tie.Need-nearest-root-requires
 nearest-root-requires c κs = (c .before .estimate24 .ensures .small, c .before .estimate24 .ensures .room (c .if3 .taken))
 
 placed32-requires : tie.Need-placed32-requires
-placed32-requires c κs = (c .before .before .before .before .before .if2 .taken, found Nearest _ _ _ _ _ _ (c .before .before .estimate24 .ensures) (c .before .if3 .taken) (c .nearest-root .ensures) .1)
+placed32-requires c κs = (c .before .before .before .before .before .if2 .taken, found Nearest _ _ _ _ _ _ _ (c .before .before .estimate24 .ensures) (c .before .if3 .taken) (c .nearest-root .ensures) .1)
 
 returns : tie.Need-returns
-returns c = λ l. (
-  no-nan binary32 (c .before .before .before .before .before .before .before .before .args .m) (omega arith),
-  near-word Nearest binary32 (c .before .before .before .before .before .before .before .before .args .m) _ (c .before .before .before .before .before .radicand .result / 64) _ _ (c .before .before .before .before .before .before .before .if1 .taken) (c .before .before .before .before .before .before .if2 .taken) refl (omega (arith, c .before .before .before .before .before .radicand .ensures .0)) (found Nearest _ _ _ _ _ _ (c .before .before .before .estimate24 .ensures) (c .before .before .if3 .taken) (c .before .nearest-root .ensures) .0) (omega (arith, c .placed32 .ensures)),
-)
+returns c = λ l. let is = found Nearest _ _ _ _ _ _ _ (c .before .before .before .estimate24 .ensures) (c .before .before .if3 .taken) (c .before .nearest-root .ensures) in
+    (no-nan binary32 (c .before .before .before .before .before .before .before .before .args .m) (omega arith), near-word Nearest binary32 (c .before .before .before .before .before .before .before .before .args .m) _ (c .before .before .before .before .before .radicand .result / 64) _ _ _ _ (c .before .before .before .before .before .before .before .if1 .taken) (c .before .before .before .before .before .before .if2 .taken) refl (omega (arith, c .before .before .before .before .before .radicand .ensures .0)) (is .0) (is .2) (omega (arith, c .placed32 .ensures .0)) (c .placed32 .ensures .1))
 
 returns-2 : tie.Need-returns-2
 returns-2 c = λ l. absurd (omega arith)

@@ -1,11 +1,11 @@
-use Rattle.roots.proofs.RootNear.{found, near-word}
-use Rattle.rounding.specs.declared.rounding.Rounding.the-variants.{Nearest}
 use native.Mathlib.Nat.{mul-one}
-use Prim.Native.Nat.{_*_, _/_, _^_}
-use lib.Ieee.{binary64}
-use native.Mathlib.Omega.{arith}
-use mathlib.Core.Path.{sym}
 use Rattle.nans.proofs.Choosing.{no-nan}
+use mathlib.Core.Path.{sym}
+use native.Mathlib.Omega.{arith}
+use lib.Ieee.{binary64}
+use Prim.Native.Nat.{_*_, _/_, _^_}
+use Rattle.rounding.specs.declared.rounding.Rounding.the-variants.{Nearest}
+use Rattle.roots.proofs.RootNear.{found, near-word}
 use borrow.Author.Needs.{needs}
 use Rattle.roots.proofs.root.quick_root64.Statement.{statement}
 use Rattle.roots.proofs.root.quick_root64.Tie as tie
@@ -23,13 +23,11 @@ nearest-root-requires : tie.Need-nearest-root-requires
 nearest-root-requires c κs = (c .before .estimate53 .ensures .small, c .before .estimate53 .ensures .room (c .if3 .taken))
 
 placed64-requires : tie.Need-placed64-requires
-placed64-requires c κs = (c .before .before .before .before .before .if2 .taken, found Nearest _ _ _ _ _ _ (c .before .before .estimate53 .ensures) (c .before .if3 .taken) (c .nearest-root .ensures) .1)
+placed64-requires c κs = (c .before .before .before .before .before .if2 .taken, found Nearest _ _ _ _ _ _ _ (c .before .before .estimate53 .ensures) (c .before .if3 .taken) (c .nearest-root .ensures) .1)
 
 returns : tie.Need-returns
-returns c = λ l. (
-  no-nan binary64 (c .before .before .before .before .before .before .before .before .args .m) (omega arith),
-  near-word Nearest binary64 (c .before .before .before .before .before .before .before .before .args .m) _ (c .before .before .before .before .before .radicand .result * 2 ^ 52) _ _ (c .before .before .before .before .before .before .before .if1 .taken) (c .before .before .before .before .before .before .if2 .taken) (sym (mul-one _)) (omega (arith, c .before .before .before .before .before .radicand .ensures .0)) (found Nearest _ _ _ _ _ _ (c .before .before .before .estimate53 .ensures) (c .before .before .if3 .taken) (c .before .nearest-root .ensures) .0) (omega (arith, c .placed64 .ensures)),
-)
+returns c = λ l. let is = found Nearest _ _ _ _ _ _ _ (c .before .before .before .estimate53 .ensures) (c .before .before .if3 .taken) (c .before .nearest-root .ensures) in
+    (no-nan binary64 (c .before .before .before .before .before .before .before .before .args .m) (omega arith), near-word Nearest binary64 (c .before .before .before .before .before .before .before .before .args .m) _ (c .before .before .before .before .before .radicand .result * 2 ^ 52) _ _ _ _ (c .before .before .before .before .before .before .before .if1 .taken) (c .before .before .before .before .before .before .if2 .taken) (sym (mul-one _)) (omega (arith, c .before .before .before .before .before .radicand .ensures .0)) (is .0) (is .2) (omega (arith, c .placed64 .ensures .0)) (c .placed64 .ensures .1))
 
 returns-2 : tie.Need-returns-2
 returns-2 c = λ l. absurd (omega arith)

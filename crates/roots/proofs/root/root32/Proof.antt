@@ -1,7 +1,7 @@
-use Rattle.roots.proofs.Sqrt.{sqrt-of-zero, root-nan, sqrt-negative, sqrt-of-inf, sqrt-of-nan, root-low, root-mid}
-use lib.Ieee.{binary32}
-use mathlib.Core.Path.{refl}
 use native.Mathlib.Omega.{arith}
+use mathlib.Core.Path.{refl}
+use lib.Ieee.{binary32}
+use Rattle.roots.proofs.Sqrt.{sqrt-of-zero, sqrt-negative, sqrt-of-inf, root-low, root-mid, raised-as}
 use borrow.Author.Needs.{needs}
 use Rattle.roots.proofs.root.root32.Statement.{statement}
 use Rattle.roots.proofs.root.root32.Tie as tie
@@ -10,13 +10,10 @@ returns : tie.Need-returns
 returns c = sqrt-of-zero (c .before .args .mode) binary32 (c .before .args .b) (c .before .fits .b .fits) (omega arith)
 
 returns-2 : tie.Need-returns-2
-returns-2 c = root-nan (c .before .before .args .mode) binary32 (c .before .before .args .b) (sqrt-negative (c .before .before .args .mode) binary32 (c .before .before .args .b) (omega arith) (c .if2 .taken))
+returns-2 c = sqrt-negative (c .before .before .args .mode) binary32 (c .before .before .args .b) (c .before .before .pre) (omega arith) (c .if2 .taken)
 
 returns-3 : tie.Need-returns-3
-returns-3 c = sqrt-of-inf (c .before .before .before .before .args .mode) binary32 (c .before .before .before .before .args .b) (c .before .before .if2 .left) (c .before .if3 .taken) (c .if4 .taken)
-
-returns-4 : tie.Need-returns-4
-returns-4 c = root-nan (c .before .before .before .before .args .mode) binary32 (c .before .before .before .before .args .b) (sqrt-of-nan (c .before .before .before .before .args .mode) binary32 (c .before .before .before .before .args .b) (c .before .if3 .taken) (c .if4 .left))
+returns-3 c = sqrt-of-inf (c .before .before .before .args .mode) binary32 (c .before .before .before .args .b) (c .before .before .before .pre) (c .before .if2 .left) (c .if3 .taken)
 
 lift-requires : tie.Need-lift-requires
 lift-requires c κs = search needs
@@ -30,20 +27,23 @@ shl-rooted c = search needs
 rooted-requires : tie.Need-rooted-requires
 rooted-requires c κs = search needs
 
-add-result : tie.Need-add-result
-add-result c = search needs
+add-t14 : tie.Need-add-t14
+add-t14 c = search needs
 
-mul-result : tie.Need-mul-result
-mul-result c = search needs
+mul-t15 : tie.Need-mul-t15
+mul-t15 c = search needs
 
-add-result-2 : tie.Need-add-result-2
-add-result-2 c = search needs
+add-t16 : tie.Need-add-t16
+add-t16 c = search needs
 
-cast-result : tie.Need-cast-result
-cast-result c = search needs
+cast-t17 : tie.Need-cast-t17
+cast-t17 c = search needs
 
-returns-5 : tie.Need-returns-5
-returns-5 c = root-low (c .before .before .before .before .before .before .before .args .mode) binary32 (c .before .before .before .before .before .before .before .args .b) (c .before .before .lift .result) _ (c .before .before .before .before .before .if2 .left) (c .before .before .before .if5 .taken) (c .before .before .lift .ensures) (c .before .rooted .ensures .kept-is)
+settled-requires : tie.Need-settled-requires
+settled-requires c κs = search needs
+
+returns-4 : tie.Need-returns-4
+returns-4 c = raised-as _ _ _ _ _ _ (c .settled .ensures) (root-low (c .before .before .before .before .before .before .before .before .args .mode) binary32 (c .before .before .before .before .before .before .before .before .args .b) (c .before .before .before .lift .result) _ _ (c .before .before .before .before .before .before .if2 .left) (c .before .before .before .before .if4 .taken) (c .before .before .before .lift .ensures) (c .before .before .rooted .ensures .kept-is, c .before .before .rooted .ensures .exact-is))
 
 add-e : tie.Need-add-e
 add-e c = search needs
@@ -57,20 +57,23 @@ mul-rooted c = search needs
 rooted-requires-2 : tie.Need-rooted-requires-2
 rooted-requires-2 c κs = search needs
 
-add-result-3 : tie.Need-add-result-3
-add-result-3 c = search needs
+add-t19 : tie.Need-add-t19
+add-t19 c = search needs
 
-mul-result-2 : tie.Need-mul-result-2
-mul-result-2 c = search needs
+mul-t20 : tie.Need-mul-t20
+mul-t20 c = search needs
 
-add-result-4 : tie.Need-add-result-4
-add-result-4 c = search needs
+add-t21 : tie.Need-add-t21
+add-t21 c = search needs
 
-cast-result-2 : tie.Need-cast-result-2
-cast-result-2 c = search needs
+cast-t22 : tie.Need-cast-t22
+cast-t22 c = search needs
 
-returns-6 : tie.Need-returns-6
-returns-6 c = root-mid (c .before .before .before .before .before .before .args .mode) binary32 (c .before .before .before .before .before .before .args .b) _ _ (c .before .before .before .before .if2 .left) (c .before .before .if5 .left) (c .before .before .before .if3 .left) (refl) (c .before .rooted2 .ensures .kept-is)
+settled-requires-2 : tie.Need-settled-requires-2
+settled-requires-2 c κs = search needs
+
+returns-5 : tie.Need-returns-5
+returns-5 c = raised-as _ _ _ _ _ _ (c .settled2 .ensures) (root-mid (c .before .before .before .before .before .before .before .args .mode) binary32 (c .before .before .before .before .before .before .before .args .b) _ _ _ (c .before .before .before .before .before .if2 .left) (c .before .before .before .if4 .left) (c .before .before .before .before .if3 .left) refl (c .before .before .rooted2 .ensures .kept-is, c .before .before .rooted2 .ensures .exact-is))
 
 pub root32-spec : {M : Type 1} → statement M
 root32-spec =
@@ -79,22 +82,23 @@ root32-spec =
     returns
     returns-2
     returns-3
-    returns-4
     lift-requires
     sub-e
     shl-rooted
     rooted-requires
-    add-result
-    mul-result
-    add-result-2
-    cast-result
-    returns-5
+    add-t14
+    mul-t15
+    add-t16
+    cast-t17
+    settled-requires
+    returns-4
     add-e
     add-rooted
     mul-rooted
     rooted-requires-2
-    add-result-3
-    mul-result-2
-    add-result-4
-    cast-result-2
-    returns-6)
+    add-t19
+    mul-t20
+    add-t21
+    cast-t22
+    settled-requires-2
+    returns-5)

@@ -1,8 +1,8 @@
-use Rattle.roots.proofs.Sqrt.{sqrt-of-zero, root-nan, sqrt-negative, sqrt-of-inf, sqrt-of-nan, root-low, root-mid}
-use lib.Ieee.{binary64}
 use native.Mathlib.Nat.{mul-one}
-use mathlib.Core.Path.{sym}
 use native.Mathlib.Omega.{arith}
+use mathlib.Core.Path.{sym}
+use lib.Ieee.{binary64}
+use Rattle.roots.proofs.Sqrt.{sqrt-of-zero, sqrt-negative, sqrt-of-inf, root-low, root-mid, raised-as}
 use borrow.Author.Needs.{needs}
 use Rattle.roots.proofs.root.root64.Statement.{statement}
 use Rattle.roots.proofs.root.root64.Tie as tie
@@ -11,13 +11,10 @@ returns : tie.Need-returns
 returns c = sqrt-of-zero (c .before .args .mode) binary64 (c .before .args .b) (c .before .fits .b .fits) (omega arith)
 
 returns-2 : tie.Need-returns-2
-returns-2 c = root-nan (c .before .before .args .mode) binary64 (c .before .before .args .b) (sqrt-negative (c .before .before .args .mode) binary64 (c .before .before .args .b) (omega arith) (c .if2 .taken))
+returns-2 c = sqrt-negative (c .before .before .args .mode) binary64 (c .before .before .args .b) (c .before .before .pre) (omega arith) (c .if2 .taken)
 
 returns-3 : tie.Need-returns-3
-returns-3 c = sqrt-of-inf (c .before .before .before .before .args .mode) binary64 (c .before .before .before .before .args .b) (c .before .before .if2 .left) (c .before .if3 .taken) (c .if4 .taken)
-
-returns-4 : tie.Need-returns-4
-returns-4 c = root-nan (c .before .before .before .before .args .mode) binary64 (c .before .before .before .before .args .b) (sqrt-of-nan (c .before .before .before .before .args .mode) binary64 (c .before .before .before .before .args .b) (c .before .if3 .taken) (c .if4 .left))
+returns-3 c = sqrt-of-inf (c .before .before .before .args .mode) binary64 (c .before .before .before .args .b) (c .before .before .before .pre) (c .before .if2 .left) (c .if3 .taken)
 
 lift-requires : tie.Need-lift-requires
 lift-requires c κs = search needs
@@ -31,17 +28,20 @@ shl-rooted c = search needs
 rooted-requires : tie.Need-rooted-requires
 rooted-requires c κs = search needs
 
-add-result : tie.Need-add-result
-add-result c = search needs
+add-t13 : tie.Need-add-t13
+add-t13 c = search needs
 
-mul-result : tie.Need-mul-result
-mul-result c = search needs
+mul-t14 : tie.Need-mul-t14
+mul-t14 c = search needs
 
-add-result-2 : tie.Need-add-result-2
-add-result-2 c = search needs
+add-t15 : tie.Need-add-t15
+add-t15 c = search needs
 
-returns-5 : tie.Need-returns-5
-returns-5 c = root-low (c .before .before .before .before .before .before .before .args .mode) binary64 (c .before .before .before .before .before .before .before .args .b) (c .before .before .lift .result) _ (c .before .before .before .before .before .if2 .left) (c .before .before .before .if5 .taken) (c .before .before .lift .ensures) (c .before .rooted .ensures .kept-is)
+settled-requires : tie.Need-settled-requires
+settled-requires c κs = search needs
+
+returns-4 : tie.Need-returns-4
+returns-4 c = raised-as _ _ _ _ _ _ (c .settled .ensures) (root-low (c .before .before .before .before .before .before .before .before .args .mode) binary64 (c .before .before .before .before .before .before .before .before .args .b) (c .before .before .before .lift .result) _ _ (c .before .before .before .before .before .before .if2 .left) (c .before .before .before .before .if4 .taken) (c .before .before .before .lift .ensures) (c .before .before .rooted .ensures .kept-is, c .before .before .rooted .ensures .exact-is))
 
 add-e : tie.Need-add-e
 add-e c = search needs
@@ -52,17 +52,20 @@ add-rooted c = search needs
 rooted-requires-2 : tie.Need-rooted-requires-2
 rooted-requires-2 c κs = search needs
 
-add-result-3 : tie.Need-add-result-3
-add-result-3 c = search needs
+add-t17 : tie.Need-add-t17
+add-t17 c = search needs
 
-mul-result-2 : tie.Need-mul-result-2
-mul-result-2 c = search needs
+mul-t18 : tie.Need-mul-t18
+mul-t18 c = search needs
 
-add-result-4 : tie.Need-add-result-4
-add-result-4 c = search needs
+add-t19 : tie.Need-add-t19
+add-t19 c = search needs
 
-returns-6 : tie.Need-returns-6
-returns-6 c = root-mid (c .before .before .before .before .before .before .args .mode) binary64 (c .before .before .before .before .before .before .args .b) _ _ (c .before .before .before .before .if2 .left) (c .before .before .if5 .left) (c .before .before .before .if3 .left) (sym (mul-one _)) (c .before .rooted2 .ensures .kept-is)
+settled-requires-2 : tie.Need-settled-requires-2
+settled-requires-2 c κs = search needs
+
+returns-5 : tie.Need-returns-5
+returns-5 c = raised-as _ _ _ _ _ _ (c .settled2 .ensures) (root-mid (c .before .before .before .before .before .before .before .args .mode) binary64 (c .before .before .before .before .before .before .before .args .b) _ _ _ (c .before .before .before .before .before .if2 .left) (c .before .before .before .if4 .left) (c .before .before .before .before .if3 .left) (sym (mul-one _)) (c .before .before .rooted2 .ensures .kept-is, c .before .before .rooted2 .ensures .exact-is))
 
 pub root64-spec : {M : Type 1} → statement M
 root64-spec =
@@ -71,19 +74,20 @@ root64-spec =
     returns
     returns-2
     returns-3
-    returns-4
     lift-requires
     sub-e
     shl-rooted
     rooted-requires
-    add-result
-    mul-result
-    add-result-2
-    returns-5
+    add-t13
+    mul-t14
+    add-t15
+    settled-requires
+    returns-4
     add-e
     add-rooted
     rooted-requires-2
-    add-result-3
-    mul-result-2
-    add-result-4
-    returns-6)
+    add-t17
+    mul-t18
+    add-t19
+    settled-requires-2
+    returns-5)

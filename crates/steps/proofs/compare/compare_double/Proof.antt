@@ -11,5 +11,5 @@ compare-double-spec =
     (λ c κs. search needs)
     (λ c κs. search needs)
     (λ c κs. search needs)
-    (λ c κs. rw (c .compare64 .ensures) (flags-lt _ _ _))
-    (λ c q v. rw (c .with-flags .ensures, c .before .compare64 .ensures, c .before .before .before .get-double .ensures, c .before .before .get-double2 .ensures)))
+    (λ c κs. rw (c .compare64 .ensures .0) (flags-lt _ _ _))
+    (λ c q v. rw (c .with-flags .ensures, c .before .compare64 .ensures .0, c .before .before .before .get-double .ensures, c .before .before .get-double2 .ensures)))

@@ -10,5 +10,5 @@ compare-double-zero-spec =
     (tie.spec
     (λ c κs. search needs)
     (λ c κs. search needs)
-    (λ c κs. rw (c .compare64 .ensures) (flags-lt _ _ _))
-    (λ c q v. rw (c .with-flags .ensures, c .before .compare64 .ensures, c .before .before .get-double .ensures)))
+    (λ c κs. rw (c .compare64 .ensures .0) (flags-lt _ _ _))
+    (λ c q v. rw (c .with-flags .ensures, c .before .compare64 .ensures .0, c .before .before .get-double .ensures)))

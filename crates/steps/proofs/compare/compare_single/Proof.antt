@@ -11,5 +11,5 @@ compare-single-spec =
     (λ c κs. search needs)
     (λ c κs. search needs)
     (λ c κs. search needs)
-    (λ c κs. rw (c .compare32 .ensures) (flags-lt _ _ _))
-    (λ c q v. rw (c .with-flags .ensures, c .before .compare32 .ensures, c .before .before .before .get-single .ensures, c .before .before .get-single2 .ensures)))
+    (λ c κs. rw (c .compare32 .ensures .0) (flags-lt _ _ _))
+    (λ c q v. rw (c .with-flags .ensures, c .before .compare32 .ensures .0, c .before .before .before .get-single .ensures, c .before .before .get-single2 .ensures)))

@@ -15,13 +15,20 @@ set-double-requires : tie.Need-set-double-requires
 set-double-requires c κs = search needs
 
 returns : tie.Need-returns
-returns c = λ q v. rw (c .set-double .ensures, c .before .before .before .quick-root64 .ensures (c .before .before .if2 .taken) .1, root-nearest binary64 (c .before .before .before .before .before .before .before .args .control) _ (c .before .before .before .before .if1 .taken) (c .before .before .before .quick-root64 .ensures (c .before .before .if2 .taken) .0), c .before .before .before .before .before .get-double .ensures)
+returns c = λ q v. let found = c .before .before .before .before .quick-root64 .ensures (c .before .before .if2 .taken) in
+    rw (c .set-double .ensures, root-nearest binary64 (c .before .before .before .before .before .before .before .before .args .control) _ _ _ (c .before .before .before .before .before .if1 .taken) (found .0) (found .1) .0, c .before .before .before .before .before .before .get-double .ensures)
 
 store-root-double-requires : tie.Need-store-root-double-requires
 store-root-double-requires c κs = search needs
 
 returns-2 : tie.Need-returns-2
-returns-2 c = λ q v. rw (c .store-root-double .ensures, c .before .before .before .get-double .ensures)
+returns-2 c = λ q v. rw (c .store-root-double .ensures, c .before .before .before .before .before .before .get-double .ensures)
+
+store-root-double-requires-2 : tie.Need-store-root-double-requires-2
+store-root-double-requires-2 c κs = search needs
+
+returns-3 : tie.Need-returns-3
+returns-3 c = λ q v. rw (c .store-root-double2 .ensures, c .before .before .before .get-double .ensures)
 
 pub root-double-spec : {M : Type 1} → statement M
 root-double-spec =
@@ -32,4 +39,6 @@ root-double-spec =
     set-double-requires
     returns
     store-root-double-requires
-    returns-2)
+    returns-2
+    store-root-double-requires-2
+    returns-3)

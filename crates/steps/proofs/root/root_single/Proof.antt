@@ -15,13 +15,20 @@ set-single-requires : tie.Need-set-single-requires
 set-single-requires c κs = search needs
 
 returns : tie.Need-returns
-returns c = λ q v. rw (c .set-single .ensures, c .before .before .before .quick-root32 .ensures (c .before .before .if2 .taken) .1, root-nearest binary32 (c .before .before .before .before .before .before .before .args .control) _ (c .before .before .before .before .if1 .taken) (c .before .before .before .quick-root32 .ensures (c .before .before .if2 .taken) .0), c .before .before .before .before .before .get-single .ensures)
+returns c = λ q v. let found = c .before .before .before .before .quick-root32 .ensures (c .before .before .if2 .taken) in
+    rw (c .set-single .ensures, root-nearest binary32 (c .before .before .before .before .before .before .before .before .args .control) _ _ _ (c .before .before .before .before .before .if1 .taken) (found .0) (found .1) .0, c .before .before .before .before .before .before .get-single .ensures)
 
 store-root-single-requires : tie.Need-store-root-single-requires
 store-root-single-requires c κs = search needs
 
 returns-2 : tie.Need-returns-2
-returns-2 c = λ q v. rw (c .store-root-single .ensures, c .before .before .before .get-single .ensures)
+returns-2 c = λ q v. rw (c .store-root-single .ensures, c .before .before .before .before .before .before .get-single .ensures)
+
+store-root-single-requires-2 : tie.Need-store-root-single-requires-2
+store-root-single-requires-2 c κs = search needs
+
+returns-3 : tie.Need-returns-3
+returns-3 c = λ q v. rw (c .store-root-single2 .ensures, c .before .before .before .get-single .ensures)
 
 pub root-single-spec : {M : Type 1} → statement M
 root-single-spec =
@@ -32,4 +39,6 @@ root-single-spec =
     set-single-requires
     returns
     store-root-single-requires
-    returns-2)
+    returns-2
+    store-root-single-requires-2
+    returns-3)

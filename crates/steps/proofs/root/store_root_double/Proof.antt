@@ -10,7 +10,7 @@ set-double-requires : tie.Need-set-double-requires
 set-double-requires c κs = search needs
 
 returns : tie.Need-returns
-returns c = rw (c .set-double .ensures, c .before .before .square-root64 .ensures)
+returns c = rw (c .set-double .ensures, c .before .before .square-root64 .ensures .0)
 
 pub store-root-double-spec : {M : Type 1} → statement M
 store-root-double-spec = tie.close (tie.spec square-root64-requires set-double-requires returns)

@@ -10,7 +10,7 @@ set-single-requires : tie.Need-set-single-requires
 set-single-requires c κs = search needs
 
 returns : tie.Need-returns
-returns c = rw (c .set-single .ensures, c .before .before .square-root32 .ensures)
+returns c = rw (c .set-single .ensures, c .before .before .square-root32 .ensures .0)
 
 pub store-root-single-spec : {M : Type 1} → statement M
 store-root-single-spec = tie.close (tie.spec square-root32-requires set-single-requires returns)

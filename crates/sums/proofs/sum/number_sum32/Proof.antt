@@ -1,14 +1,11 @@
+-- `sums::sum::number_sum32` meets its contract. Assumes nothing.
 use Rattle.sums.proofs.Numbers.{none-word, some-word}
+use mathlib.Core.Path.{refl}
 use lib.Ieee.{binary32}
+use Rattle.exceptions.proofs.Values.{handed}
 use borrow.Author.Needs.{needs}
 use Rattle.sums.proofs.sum.number_sum32.Statement.{statement}
 use Rattle.sums.proofs.sum.number_sum32.Tie as tie
-use Rattle.sums.proofs.sum.number_sum32.Reads as reads
-use Rattle.sums.proofs.sum.number_sum32.Lts as lts
-use Rattle.digits.proofs.operand.operand32.Reads as operand32-reads
-use Rattle.digits.proofs.raise.raised32.Reads as raised32-reads
-use Rattle.sums.proofs.sum.sum_digits.Reads as sum-digits-reads
-use Rattle.sums.proofs.sum.zero_sum32.Reads as zero-sum32-reads
 
 operand32-requires : tie.Need-operand32-requires
 operand32-requires c κs = search needs
@@ -22,14 +19,20 @@ sum-digits-requires c κs = search needs
 zero-sum32-requires : tie.Need-zero-sum32-requires
 zero-sum32-requires c κs = search needs
 
+silent32-requires : tie.Need-silent32-requires
+silent32-requires c κs = search needs
+
 returns : tie.Need-returns
-returns c = none-word (c .before .before .before .before .before .args .mode) binary32 _ _ _ _ _ _ _ _ _ _ _ (c .before .before .before .before .operand32 .ensures .0) (c .before .before .before .operand322 .ensures .0) (c .before .before .sum-digits .ensures) _ (c .before .if1 .taken) (c .zero-sum32 .ensures)
+returns c = handed (c .silent32 .ensures) (none-word (c .before .before .before .before .before .before .args .mode) binary32 _ _ _ _ _ _ _ _ _ _ _ (c .before .before .before .before .before .operand32 .ensures .0) (c .before .before .before .before .operand322 .ensures .0) (c .before .before .before .sum-digits .ensures) _ (c .before .before .if1 .taken) (c .before .zero-sum32 .ensures))
 
 raised32-requires : tie.Need-raised32-requires
 raised32-requires c κs = search needs
 
+settled-requires : tie.Need-settled-requires
+settled-requires c κs = search needs
+
 returns-2 : tie.Need-returns-2
-returns-2 c = some-word (c .before .before .before .before .before .args .mode) binary32 _ _ _ _ _ _ _ _ _ _ _ (c .before .before .before .before .operand32 .ensures .0) (c .before .before .before .operand322 .ensures .0) (c .before .before .sum-digits .ensures) _ _ _ _ (c .before .if1 .left) (c .raised32 .ensures)
+returns-2 c = handed (refl, c .settled .ensures) (some-word (c .before .before .before .before .before .before .args .mode) binary32 _ _ _ _ _ _ _ _ _ _ _ (c .before .before .before .before .before .operand32 .ensures .0) (c .before .before .before .before .operand322 .ensures .0) (c .before .before .before .sum-digits .ensures) _ _ _ _ (c .before .before .if1 .left) (c .before .raised32 .ensures))
 
 pub number-sum32-spec : {M : Type 1} → statement M
 number-sum32-spec =
@@ -39,6 +42,8 @@ number-sum32-spec =
     operand32-requires-2
     sum-digits-requires
     zero-sum32-requires
+    silent32-requires
     returns
     raised32-requires
+    settled-requires
     returns-2)

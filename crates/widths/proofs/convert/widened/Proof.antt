@@ -2,8 +2,8 @@ use mathlib.Core.Path.{_∙_}
 use Rattle.widths.proofs.Widen.{wide-inf, wide-normal, wide-zero, wide-low, widen-number, widen-nan}
 use native.Mathlib.Omega.{arith}
 use borrow.Author.Needs.{needs}
-use Rattle.widths.proofs.convert.widen.Statement.{statement}
-use Rattle.widths.proofs.convert.widen.Tie as tie
+use Rattle.widths.proofs.convert.widened.Statement.{statement}
+use Rattle.widths.proofs.convert.widened.Tie as tie
 
 mul-sign : tie.Need-mul-sign
 mul-sign c = search needs
@@ -56,8 +56,8 @@ add-result-5 c = search needs
 returns-5 : tie.Need-returns-5
 returns-5 c = wide-low (c .before .before .before .before .args .b) (c .lift .result) (c .before .before .before .before .fits .b .fits) (omega arith) (c .lift .ensures) ∙ widen-number _ _ (omega arith)
 
-pub widen-spec : {M : Type 1} → statement M
-widen-spec =
+pub widened-spec : {M : Type 1} → statement M
+widened-spec =
     tie.close
     (tie.spec
     mul-sign

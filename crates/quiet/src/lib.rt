@@ -1,0 +1,1 @@
+// Where a native result shows by its word that nothing was raised, or inexact alone: definitions and theorems. No code.
