@@ -46,6 +46,7 @@ struct Composed64 {
     pub last: u32,
 }
 
+// Of operands of which one is a NaN.
 fn nan32(control: u32, a: u32, b: u32) -> Raised32
     ensures { λ r. ⌜ (r .bits ≡ nanOf binary32 control a b) × (r .exceptions ≡ nanExceptions binary32 a b) ⌝ }
 {
@@ -101,6 +102,7 @@ fn negated32(control: u32, r: Raised32) -> Raised32
     }
 }
 
+// A product is added to d.
 fn accumulated32(control: u32, d: u32, p: Raised32) -> Composed32
     ensures { λ r. ⌜ IsAccumulated binary32 control d (p .bits) (p .exceptions) (r .bits) (r .first) (r .last) ⌝ }
 {
@@ -112,6 +114,7 @@ fn accumulated32(control: u32, d: u32, p: Raised32) -> Composed32
     }
 }
 
+// One operation is all.
 fn alone32(r: Raised32) -> Composed32
     ensures { λ s. ⌜ (s .bits ≡ r .bits) × (s .first ≡ 0) × (s .last ≡ r .exceptions) ⌝ }
 {
@@ -122,6 +125,7 @@ fn alone32(r: Raised32) -> Composed32
     }
 }
 
+// The result before flushing, and what either operation raised.
 fn compose32(control: u32, kind: Arithmetic, n: u32, m: u32, d: u32) -> Composed32
     ensures { λ r. ⌜ IsComposed binary32 control kind n m d (r .bits) (r .first) (r .last) ⌝ }
 {
@@ -237,6 +241,7 @@ fn alone64(r: Raised64) -> Composed64
     }
 }
 
+// The result before flushing, and what either operation raised.
 fn compose64(control: u32, kind: Arithmetic, n: u64, m: u64, d: u64) -> Composed64
     ensures { λ r. ⌜ IsComposed binary64 control kind n m d (r .bits) (r .first) (r .last) ⌝ }
 {

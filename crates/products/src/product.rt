@@ -1,5 +1,5 @@
-// The product of two words by a mode, and the exceptions that it raises. A single's digits are multiplied as they are; of a double's 106 digits the leading 61 are kept, and whether
-// something is left.
+// The product of two words by a mode, and the exceptions that it raises. A single's digits are multiplied as they are; of a double's 106 digits the
+// leading 61 are kept, and whether something is left.
 ghost use Prim.Native.Nat.{_*_, _≤_, _<_, _^_};
 ghost use lib.Ieee.{binary32, binary64};
 ghost use Rattle.rounding.specs.declared.rounding.Rounding.{Rounding};

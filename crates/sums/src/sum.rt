@@ -1,5 +1,5 @@
-// The sum of two words by a mode, and the exceptions that it raises. The smaller operand is moved down to the larger one's exponent, with a sticky digit for what falls off; then the
-// digits are added, or subtracted where the signs are unlike.
+// The sum of two words by a mode, and the exceptions that it raises. The smaller operand is moved down to the larger one's exponent, with a sticky digit
+// for what falls off; then the digits are added, or subtracted where the signs are unlike.
 ghost use mathlib.Core.Path.{_≡_};
 ghost use mathlib.Core.Bool.{cond};
 ghost use Prim.Native.Nat.{_+_, _*_, _%_, _≤_, _<_, _^_};
