@@ -15,7 +15,7 @@ extern "C" {
 #endif
 
 /* Lengths, in words. */
-#define FPU_STATE_WORDS 52
+#define FPU_STATE_WORDS 53
 #define FPU_ANSWER_WORDS 5
 #define FPU_WINDOW_MOST_WORDS 16384
 #define FPU_LIST_MOST_WORDS 4096
@@ -28,11 +28,19 @@ extern "C" {
 #define FPU_PLACE_S0 0
 #define FPU_PLACE_R0 32
 #define FPU_PLACE_FPSCR_FLAGS 48   /* FPSCR bits 31:28, in position */
-#define FPU_PLACE_FPSCR_CONTROL 49 /* FPSCR bits 27:0; 23:22 is the rounding mode of all that rounds, and with 25 set every NaN result is the default NaN */
+#define FPU_PLACE_FPSCR_CONTROL 49 /* FPSCR bits 27:5, in position; 23:22 is the rounding mode of all that rounds, and with 25 set every NaN result is the default NaN */
 #define FPU_PLACE_FPEXC 50
 #define FPU_PLACE_NZCV 51 /* the condition flags, in bits 31:28 */
+#define FPU_PLACE_FPSCR_EXCEPTIONS 52 /* FPSCR bits 4:0, the cumulative exceptions */
 
-/* Marks of the places 0 to 51: bit p is set where place p is known. The bits above are ignored. */
+/* The cumulative exceptions, in the word of place 52. */
+#define FPU_EXCEPTION_INVALID 1
+#define FPU_EXCEPTION_DIVISION_BY_ZERO 2
+#define FPU_EXCEPTION_OVERFLOW 4
+#define FPU_EXCEPTION_UNDERFLOW 8
+#define FPU_EXCEPTION_INEXACT 16
+
+/* Marks of the places 0 to 52: bit p is set where place p is known. The bits above are ignored. */
 #define FPU_MARK(place) ((uint64_t)1 << (place))
 #define FPU_MARKS_ALL (FPU_MARK(FPU_STATE_WORDS) - 1)
 
@@ -58,8 +66,8 @@ extern "C" {
 #define FPU_REFUSED_WINDOW_MARKS 106     /* of the watched run only: not as many window marks as window words */
 #define FPU_REFUSED_WINDOW_MARK 107      /* of the watched run only: a window mark that is neither 0 nor 1 */
 #define FPU_REFUSED_PAGE 108             /* of fpu_sheet only: a page of fewer than 656 bytes */
-#define FPU_REFUSED_RECORD_SIZE 109      /* of fpu_replay only: not as many bytes as the counts call for, fewer than 52 state words, or another
-                                          * number of words or marks lent than the record's window has */
+#define FPU_REFUSED_RECORD_SIZE 109      /* of fpu_replay only: bit 31 of the first number clear, not as many bytes as the counts call for, fewer
+                                          * than 53 state words, or another number of words or marks lent than the record's window has */
 #define FPU_REFUSED_RECORD_STATE 110     /* of fpu_replay only: a bit outside a place's own, or a mark before the window that is neither 0 nor 1 */
 #define FPU_REFUSED_ROUTINES 114         /* of fpu_grant only: no routine or more than eight */
 #define FPU_REFUSED_SHARE 115            /* of fpu_grant only: a share above its limit */
@@ -69,7 +77,7 @@ extern "C" {
  * nor 1; lists of unequal lengths. */
 #define FPU_INVALID_ARGUMENT 255
 
-/* Makes the state a new machine's: all zero but FPEXC, 0x40000000. Gives FPU_FINISHED, or FPU_INVALID_ARGUMENT where it has not 52 words. */
+/* Makes the state a new machine's: all zero but FPEXC, 0x40000000. Gives FPU_FINISHED, or FPU_INVALID_ARGUMENT where it has not 53 words. */
 uint32_t fpu_new(uint32_t *state, size_t state_words);
 
 /* One instruction word each; none looks at the condition in bits 31:28. `thumb` is the Thumb bit of the machine. */
@@ -92,18 +100,19 @@ uint32_t fpu_coprocessor_load_store(uint32_t *state, size_t state_words, uint32_
 uint32_t fpu_run(uint32_t *state, size_t state_words, uint32_t *window, size_t window_words, uint32_t base, uint32_t thumb,
                  const uint32_t *list, size_t list_words, uint32_t *answer, size_t answer_words);
 
-/* The same run, watched: bit p of `marks` says of place p, 0 to 51, and `window_marks` of each word of the window, whether it is known (1) or
+/* The same run, watched: bit p of `marks` says of place p, 0 to 52, and `window_marks` of each word of the window, whether it is known (1) or
  * not (0). It gives FPU_HANGS, with the place, before a word whose outcome would hang on an unknown place, and leaves the marks that hold
  * at its end. No unknown place can show in the result, the answer, the marks, or a place that is known at the end. With more marks 1 it
- * counts at least as many words, and after as many words every mark that was 1 is 1. Bits 52 to 63 of `marks` change nothing and are 0
+ * counts at least as many words, and after as many words every mark that was 1 is 1. Bits 53 to 63 of `marks` change nothing and are 0
  * afterwards; a refused run leaves the word as it came. Else it gives what fpu_run gives, or refusal 106 or 107. */
 uint32_t fpu_watch(uint32_t *state, size_t state_words, uint64_t *marks, uint32_t *window, size_t window_words, uint8_t *window_marks,
                    size_t window_marks_bytes, uint32_t base, uint32_t thumb, const uint32_t *list, size_t list_words,
                    uint32_t *answer, size_t answer_words);
 
-/* Replays a recorded cycle under the watch. A record is bytes, each number 32 bits, little end first: how many instruction words, how many state words,
- * the value of each state word, the mark of each, the base, the instruction words. The first 52 state words are places 0 to 51 as in a state, the
- * others a window, which is laid with its marks into the two lent buffers; they have to be as long as it is. `state` and `marks` are written only.
+/* Replays a recorded cycle under the watch. A record is bytes, each number 32 bits, little end first: how many instruction words, with bit 31
+ * set, which is no part of the count, how many state words, the value of each state word, the mark of each, the base, the instruction words. The
+ * first 53 state words are places 0 to 52 as in a state, the others a window, which is laid with its marks into the two lent buffers; they have to be
+ * as long as it is. A record with bit 31 of its first number clear is of the time before place 52, and is refused. `state` and `marks` are written only.
  * It gives and leaves what fpu_watch gives and leaves on that state, with `thumb` 0. Or it is refused, the first that applies of 109, 110, 101 to 104
  * and 107: then the two buffers are as they came, the state is a new machine's, and `marks` is 0. FPU_INVALID_ARGUMENT is for the lengths
  * of the state and the answer. */

@@ -163,14 +163,58 @@ fn memory(r: &mut Random, out: &mut Vec<Mix>) {
     out.push(Mix { name: "VLDR", list: list(|_| 0xED91_0A00 | d(false, r.below(32)) | r.below(256)), state, rounds: false });
 }
 
-/// FPSCR of RunFast: FZ and default NaN.
-pub const RUN_FAST: u32 = 0x0300_0000;
+/// FPSCR bit 4, inexact: while it is set, arithmetic in mode 00 is done by native floats.
+pub const INEXACT: u32 = 1 << 4;
+
+/// FPSCR of RunFast, FZ and default NaN, with bit 4 set.
+pub const RUN_FAST: u32 = 0x0300_0000 | INEXACT;
 
 /// The lists, with more bits of FPSCR set.
-pub fn mixes_under(control: u32) -> Vec<Mix> {
+pub fn mixes_under(fpscr: u32) -> Vec<Mix> {
     let mut out = mixes();
-    out.iter_mut().for_each(|mix| mix.state[49] |= control);
+    for mix in &mut out {
+        mix.state[49] |= fpscr & 0x0FFF_FFE0;
+        mix.state[52] |= fpscr & 0x1F;
+    }
     out
+}
+
+/// The same words on operands with exact results, so that FPSCR bit 4 stays clear: but the words at random, of which some are always inexact.
+pub fn exact_mixes() -> Vec<Mix> {
+    let mut out = mixes();
+    out.retain(|mix| !mix.name.contains("at random"));
+    out.iter_mut().for_each(exact);
+    out
+}
+
+/// Operands with exact results: quotients of multiples of one odd number by powers of two, roots of squares, integers and whole numbers to convert, and for
+/// all else quarters from 1 on.
+fn exact(mix: &mut Mix) {
+    let word = mix.name.split(' ').next().unwrap();
+    let double = word.ends_with("F64");
+    let number = |i: usize| {
+        let odd = (2 * i + 1) as f64;
+        if word.starts_with("VDIV") {
+            12345.0 * f64::powi(2.0, i as i32 % 5)
+        } else if word.starts_with("VSQRT") {
+            let root = if double { 33_554_432.0 } else { 2048.0 } + odd;
+            root * root
+        } else if word.contains("S32") {
+            1000.0 + odd
+        } else {
+            1.0 + (7 * i % 16) as f64 / 4.0
+        }
+    };
+    for i in 0..16 {
+        if word.ends_with("S32") {
+            (mix.state[2 * i], mix.state[2 * i + 1]) = (number(i) as u32, number(i) as u32);
+        } else if double {
+            let bits = number(i).to_bits();
+            (mix.state[2 * i], mix.state[2 * i + 1]) = (bits as u32, (bits >> 32) as u32);
+        } else {
+            (mix.state[2 * i], mix.state[2 * i + 1]) = ((number(i) as f32).to_bits(), (number(i + 16) as f32).to_bits());
+        }
+    }
 }
 
 fn mixes() -> Vec<Mix> {
@@ -189,7 +233,8 @@ fn mixes() -> Vec<Mix> {
 /// One word over and over: VADD.F32 with a vector length, for the growth with LEN.
 pub fn of_length(len: u32) -> Mix {
     let mut r = Random(11);
-    let state = machine(&mut r, false, len << 16);
+    let mut state = machine(&mut r, false, len << 16);
+    state[52] = INEXACT;
     let s = sources(false);
     Mix { name: "VADD.F32", list: list(|_| dyadic(&mut r, false, ADD, &[24, 25, 26, 27, 28, 29, 30, 31], &s)), state, rounds: true }
 }

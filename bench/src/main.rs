@@ -1,11 +1,12 @@
-//! bench [ROUNDS], bench modes [ROUNDS]: the plain run of libfpu.a beside the unchanged Rust's three calls in a loop, and the watched run beside the plain one.
-//! Each round times the three on the same list, one after the other; the table has the best of all rounds, in nanoseconds a word. With modes: the runs in each
-//! rounding mode beside mode 00.
+//! bench [ROUNDS], bench modes [ROUNDS], bench clear [ROUNDS]: the plain run of libfpu.a beside the unchanged Rust's three calls in a loop, and the watched run
+//! beside the plain one. Each round times the three on the same list, one after the other; the table has the best of all rounds, in nanoseconds a word. The
+//! lists start with FPSCR bit 4, inexact, set. With modes: the runs in each rounding mode beside mode 00. With clear: on operands with exact results, so that
+//! bit 4 stays clear.
 
 mod lists;
 
 use fpu::raw;
-use lists::{Mix, BASE, RUN_FAST, UNKNOWN, WINDOW};
+use lists::{Mix, BASE, INEXACT, RUN_FAST, UNKNOWN, WINDOW};
 use oracle::Cpu;
 use std::hint::black_box;
 use std::time::Instant;
@@ -65,12 +66,14 @@ fn measure(mix: &Mix, rounds: usize) -> Times {
         }));
     }
     assert!(answers.iter().all(|a| a[0] as usize == words), "{}: not every word was run: {answers:?}", mix.name);
+    assert!(mix.state[52] != 0 || states[0][52] == 0, "{}: an exception was set", mix.name);
     if mix.state[49] & MODE != 0 {
         assert!(states[0] == states[1], "{}: the runs leave different states", mix.name);
         return t;
     }
     let (mut state, mut after) = (mix.state, window.clone());
-    oracle::listed(&mut cpu, &mix.list, BASE, false, &mut state, &mut after);
+    // the Rust sets none of FPSCR 4:0, and no list reads them
+    oracle::listed(&mut cpu, &mix.list, BASE, false, &mut state, &mut after, |_, _| states[0][52]);
     assert!(states == [state; 2] && windows[1..] == [after.clone(), after], "{}: the runs leave something else than the Rust", mix.name);
     t
 }
@@ -83,11 +86,11 @@ fn worst(ratios: &[f64]) -> f64 {
     ratios.iter().copied().fold(0.0, f64::max)
 }
 
-fn table(rounds: usize, lists: &str, control: u32) {
-    println!("| {lists} | Rust, ns a word | run | run / Rust | watch | watch / run |");
+fn table(rounds: usize, name: &str, lists: Vec<Mix>) {
+    println!("| {name} | Rust, ns a word | run | run / Rust | watch | watch / run |");
     println!("|---|---|---|---|---|---|");
     let (mut plain, mut watched) = (Vec::new(), Vec::new());
-    for mix in lists::mixes_under(control) {
+    for mix in lists {
         let t = measure(&mix, rounds);
         plain.push(t.run / t.rust);
         watched.push(t.watch / t.run);
@@ -101,7 +104,7 @@ fn table(rounds: usize, lists: &str, control: u32) {
 fn modes(rounds: usize) {
     println!("| rounding modes | run 00, ns a word | 01 | 10 | 11 | worst / 00 | watch 00 | 01 | 10 | 11 | worst / 00 |");
     println!("|---|---|---|---|---|---|---|---|---|---|---|");
-    let lists = [0, 1 << 22, 2 << 22, 3 << 22].map(lists::mixes_under);
+    let lists = [0, 1 << 22, 2 << 22, 3 << 22].map(|mode| lists::mixes_under(mode | INEXACT));
     for i in (0..lists[0].len()).filter(|i| lists[0][*i].rounds) {
         let t = [0, 1, 2, 3].map(|mode| measure(&lists[mode][i], rounds));
         let row = |x: [f64; 4]| format!("{:.2} | {:.2} | {:.2} | {:.2} | {:.2}", x[0], x[1], x[2], x[3], worst(&x[1..]) / x[0]);
@@ -154,9 +157,9 @@ fn growth(rounds: usize) {
     }
 }
 
-/// runs one mix once and nothing else, for bench/count: bench of MIX rust|run|watch [FPSCR]. `bench names` lists the mixes.
-fn only(number: usize, way: &str, control: u32) {
-    let mixes = lists::mixes_under(control);
+/// runs one mix once and nothing else, for bench/count: bench of MIX rust|run|watch FPSCR|clear. `bench names` lists the mixes.
+fn only(number: usize, way: &str, fpscr: &str) {
+    let mixes = if fpscr == "clear" { lists::exact_mixes() } else { lists::mixes_under(u32::from_str_radix(fpscr, 16).expect("FPSCR in hexadecimal")) };
     let mix = &mixes[number];
     let (mut window, mut window_marks, mut marks, mut state, mut answer) = (vec![0x3F80_0000; WINDOW], vec![1u8; WINDOW], marks(), mix.state, [0; 5]);
     match way {
@@ -177,20 +180,18 @@ fn only(number: usize, way: &str, control: u32) {
 
 fn main() {
     let words: Vec<String> = std::env::args().skip(1).collect();
-    if let [of, number, way, rest @ ..] = &words[..] {
-        if of == "of" {
-            return only(number.parse().expect("a mix's number"), way, rest.first().map_or(0, |x| u32::from_str_radix(x, 16).expect("FPSCR in hexadecimal")));
+    let rounds = |at: usize| words.get(at).map_or(100, |w| w.parse().expect("a number of rounds"));
+    match words.iter().map(String::as_str).collect::<Vec<_>>()[..] {
+        ["of", number, way, fpscr] => only(number.parse().expect("a mix's number"), way, fpscr),
+        ["names", "clear"] => lists::exact_mixes().iter().for_each(|mix| println!("{}", mix.name)),
+        ["names", ..] => lists::mixes_under(INEXACT).iter().for_each(|mix| println!("{}", mix.name)),
+        ["modes", ..] => modes(rounds(1)),
+        ["clear", ..] => table(rounds(1), "exact results, FPSCR bit 4 clear", lists::exact_mixes()),
+        _ => {
+            table(rounds(0), "list of 4,096 words", lists::mixes_under(INEXACT));
+            println!();
+            table(rounds(0), "RunFast, FPSCR 03000010", lists::mixes_under(RUN_FAST));
+            growth(rounds(0));
         }
     }
-    if words.first().is_some_and(|w| w == "names") {
-        return lists::mixes_under(0).iter().for_each(|mix| println!("{}", mix.name));
-    }
-    if words.first().is_some_and(|w| w == "modes") {
-        return modes(words.get(1).map_or(100, |w| w.parse().expect("a number of rounds")));
-    }
-    let rounds = words.first().map_or(100, |w| w.parse().expect("a number of rounds"));
-    table(rounds, "list of 4,096 words", 0);
-    println!();
-    table(rounds, "RunFast, FPSCR 03000000", RUN_FAST);
-    growth(rounds);
 }

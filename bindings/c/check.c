@@ -203,17 +203,38 @@ static void single_calls(void)
         unchanged();
     }
 
-    fresh("FPSCR in two words");
+    fresh("FPSCR in three words");
     p.state[FPU_PLACE_R0] = 0xA7654321;
     p.word = 0xEEE10A10; /* r0 to FPSCR */
     result(made(COPROCESSOR_REGISTER), FPU_FINISHED);
     answer(0, 0, 0, 0);
     changed(FPU_PLACE_FPSCR_FLAGS, 0xA0000000);
-    changed(FPU_PLACE_FPSCR_CONTROL, 0x07654321);
+    changed(FPU_PLACE_FPSCR_CONTROL, 0x07654320);
+    changed(FPU_PLACE_FPSCR_EXCEPTIONS, FPU_EXCEPTION_INVALID);
     unchanged();
     p.word = 0xEEF11A10; /* FPSCR to r1 */
     result(made(COPROCESSOR_REGISTER), FPU_FINISHED);
     changed(FPU_PLACE_R0 + 1, 0xA7654321);
+    unchanged();
+
+    fresh("a sum that is inexact");
+    p.state[0] = 0x3F800000;
+    p.state[1] = 0x33000000;
+    p.state[FPU_PLACE_FPSCR_EXCEPTIONS] = FPU_EXCEPTION_OVERFLOW;
+    p.word = 0xEE301A20; /* FADDS s2, s0, s1 */
+    result(made(DATA_PROCESSING), FPU_FINISHED);
+    answer(0, 0, 0, 0);
+    changed(2, 0x3F800000);
+    changed(FPU_PLACE_FPSCR_EXCEPTIONS, FPU_EXCEPTION_OVERFLOW | FPU_EXCEPTION_INEXACT);
+    unchanged();
+
+    fresh("a quotient by zero");
+    p.state[0] = 0x3F800000;
+    p.word = 0xEE801A20; /* FDIVS s2, s0, s1 */
+    result(made(DATA_PROCESSING), FPU_FINISHED);
+    answer(0, 0, 0, 0);
+    changed(2, 0x7F800000);
+    changed(FPU_PLACE_FPSCR_EXCEPTIONS, FPU_EXCEPTION_DIVISION_BY_ZERO);
     unchanged();
 
     fresh("a load");
@@ -278,10 +299,24 @@ static void runs(void)
     p.marks[0] &= ~FPU_MARK(FPU_PLACE_S0);
     result(made(WATCH), FPU_HANGS);
     answer(3, FPU_PLACE_NZCV, 0, 0);
-    given.marks[0] &= ~(FPU_MARK(FPU_PLACE_FPSCR_FLAGS) | FPU_MARK(FPU_PLACE_NZCV));
+    given.marks[0] &= ~(FPU_MARK(FPU_PLACE_FPSCR_FLAGS) | FPU_MARK(FPU_PLACE_NZCV) | FPU_MARK(FPU_PLACE_FPSCR_EXCEPTIONS));
     changed(FPU_PLACE_R0 + 15, 12);
     changed(FPU_PLACE_FPSCR_FLAGS, 0x60000000);
     changed(FPU_PLACE_NZCV, 0x60000000);
+    unchanged();
+
+    fresh("an operand that is unknown: so are the exceptions");
+    p.list[0] = 0xEE301A20;
+    p.list_words = 1;
+    p.state[0] = 0x7F7FFFFF;
+    p.state[1] = 0x7F7FFFFF;
+    p.marks[0] &= ~FPU_MARK(FPU_PLACE_S0 + 1);
+    result(made(WATCH), FPU_FINISHED);
+    answer(1, 0, 0, 0);
+    given.marks[0] &= ~(FPU_MARK(FPU_PLACE_S0 + 2) | FPU_MARK(FPU_PLACE_FPSCR_EXCEPTIONS));
+    changed(2, 0x7F800000);
+    changed(FPU_PLACE_R0 + 15, 4);
+    changed(FPU_PLACE_FPSCR_EXCEPTIONS, FPU_EXCEPTION_OVERFLOW | FPU_EXCEPTION_INEXACT);
     unchanged();
 
     fresh("an unknown word of the window");
@@ -298,12 +333,90 @@ static void runs(void)
 
     for (int place = 0; place < FPU_STATE_WORDS; place++) {
         fresh("a place that is unknown, with bits above the last place");
-        p.marks[0] = FPU_MARKS_ALL ^ FPU_MARK(place) ^ 0xA5B0000000000000;
+        p.marks[0] = FPU_MARKS_ALL ^ FPU_MARK(place) ^ 0xA560000000000000;
         result(made(WATCH), FPU_FINISHED);
         answer(0, 0, 0, 0);
         given.marks[0] = FPU_MARKS_ALL ^ FPU_MARK(place);
         unchanged();
     }
+}
+
+/* A word by the call and by both runs: what it sets of FPSCR 4:0, beside what was set, and what it leaves in s0. */
+static void raised(const char *name, uint32_t word, uint32_t s0, uint32_t s1, uint32_t s2, uint32_t control, uint32_t expected, uint32_t set)
+{
+    for (int call = 0; call < CALLS; call += call == DATA_PROCESSING ? RUN : 1)
+        for (uint32_t was = 0; was < 32; was++) {
+            fresh(name);
+            p.state[0] = s0;
+            p.state[1] = s1;
+            p.state[2] = s2;
+            p.state[FPU_PLACE_FPSCR_CONTROL] = control;
+            p.state[FPU_PLACE_FPSCR_EXCEPTIONS] = was;
+            p.word = word;
+            list(&word, 1);
+            result(made(call), FPU_FINISHED);
+            answer(call != DATA_PROCESSING, 0, 0, 0);
+            changed(0, expected);
+            changed(FPU_PLACE_FPSCR_EXCEPTIONS, was | set);
+            given.state[FPU_PLACE_FPSCR_FLAGS] = p.state[FPU_PLACE_FPSCR_FLAGS];
+            given.state[FPU_PLACE_R0 + 15] = p.state[FPU_PLACE_R0 + 15];
+            unchanged();
+        }
+}
+
+static void exceptions(void)
+{
+    raised("an exact sum", ADD, 5, 0x3F800000, 0x40000000, 0, 0x40400000, 0);
+    raised("an inexact sum", ADD, 5, 0x3F800000, 0x33000000, 0, 0x3F800000, FPU_EXCEPTION_INEXACT);
+    raised("an inexact sum, rounded up", ADD, 5, 0x3F800000, 0x33000000, 0x00400000, 0x3F800001, FPU_EXCEPTION_INEXACT);
+    raised("infinity less infinity", ADD, 5, 0x7F800000, 0xFF800000, 0, 0x7FC00000, FPU_EXCEPTION_INVALID);
+    raised("a sum with a quiet NaN", ADD, 5, 0x7FC00001, 0x3F800000, 0, 0x7FC00001, 0);
+    raised("a sum with a signalling NaN", ADD, 5, 0x7F800001, 0x3F800000, 0, 0x7FC00001, FPU_EXCEPTION_INVALID);
+    raised("a quotient by zero", 0xEE800A81, 5, 0xBF800000, 0, 0, 0xFF800000, FPU_EXCEPTION_DIVISION_BY_ZERO);
+    raised("a product that overflows", 0xEE200A81, 5, 0x7F7FFFFF, 0x40000000, 0, 0x7F800000, FPU_EXCEPTION_OVERFLOW | FPU_EXCEPTION_INEXACT);
+    raised("a tiny product that rounds to 0", 0xEE200A81, 5, 1, 0x3F000000, 0, 0, FPU_EXCEPTION_UNDERFLOW | FPU_EXCEPTION_INEXACT);
+    raised("a subnormal product, exact", 0xEE200A81, 5, 0x00800000, 0x3F000000, 0, 0x00400000, 0);
+    raised("the same, flushed", 0xEE200A81, 5, 0x00800000, 0x3F000000, 0x01000000, 0, FPU_EXCEPTION_UNDERFLOW);
+    raised("a root of a negative number", 0xEEB10AE0, 5, 0xBF800000, 0, 0, 0x7FC00000, FPU_EXCEPTION_INVALID);
+    raised("an integer out of range", 0xEEBD0AE0, 5, 0x4F000000, 0, 0, 0x7FFFFFFF, FPU_EXCEPTION_INVALID);
+    raised("an integer that is rounded", 0xEEBD0AE0, 5, 0x3FC00000, 0, 0, 1, FPU_EXCEPTION_INEXACT);
+    raised("FCMP of a quiet NaN", 0xEEB40A60, 5, 0x7FC00000, 0, 0, 5, 0);
+    raised("FCMPE of a quiet NaN", 0xEEB40AE0, 5, 0x7FC00000, 0, 0, 5, FPU_EXCEPTION_INVALID);
+    raised("FCMP of a signalling NaN", 0xEEB40A60, 5, 0x7F800001, 0, 0, 5, FPU_EXCEPTION_INVALID);
+    raised("a move of a signalling NaN", 0xEEB00A60, 5, 0x7F800001, 0, 0, 0x7F800001, 0);
+}
+
+/* The marks after one word of which some places are unknown: those that it makes unknown, of those that it writes. */
+static void marked(const char *name, uint32_t word, uint64_t unknown, uint64_t after)
+{
+    fresh(name);
+    p.state[1] = p.state[2] = 0x3F800000;
+    p.marks[0] &= ~unknown;
+    list(&word, 1);
+    result(made(WATCH), FPU_FINISHED);
+    same("the marks", p.marks[0], FPU_MARKS_ALL & ~after);
+    same("the known places", p.answer[FPU_ANSWER_KNOWN], known());
+}
+
+static void marks_of_exceptions(void)
+{
+    const uint64_t s0 = FPU_MARK(0), s1 = FPU_MARK(1), r0 = FPU_MARK(FPU_PLACE_R0), flags = FPU_MARK(FPU_PLACE_FPSCR_FLAGS),
+                   control = FPU_MARK(FPU_PLACE_FPSCR_CONTROL), nzcv = FPU_MARK(FPU_PLACE_NZCV), e = FPU_MARK(FPU_PLACE_FPSCR_EXCEPTIONS);
+    marked("a sum of known operands", ADD, s0, 0);
+    marked("a sum with an unknown operand", ADD, s1, s0 | s1 | e);
+    marked("a sum with the exceptions unknown", ADD, s0 | e, e);
+    marked("a compare with an unknown operand", 0xEEB40A60, s1, s1 | flags | e);
+    marked("widening, the control bits unknown", 0xEEB71AE0, control, FPU_MARK(2) | FPU_MARK(3) | control);
+    marked("narrowing, the control bits unknown", 0xEEB70BC1, control, s0 | control | e);
+    marked("from an integer, the control bits unknown", 0xEEB80AE0, control, s0 | control);
+    marked("to an integer by the mode, the control bits unknown", 0xEEBD0A60, control, s0 | control | e);
+    marked("to an integer towards zero, the control bits unknown", 0xEEBD0AE0, control | s0, control);
+    marked("from an integer to a double, the operand unknown", 0xEEB81BE0, s1, s1 | FPU_MARK(2) | FPU_MARK(3) | e);
+    marked("a move of an unknown single", 0xEEB00A60, s1, s0 | s1);
+    marked("FPSCR to r0, the exceptions unknown", 0xEEF10A10, e, e | r0);
+    marked("FPSCR to NZCV, the exceptions unknown", 0xEEF1FA10, e | nzcv, e);
+    marked("r0 to FPSCR", 0xEEE10A10, flags | control | e, 0);
+    marked("r0 to FPSCR, r0 unknown", 0xEEE10A10, r0, r0 | flags | control | e);
 }
 
 static void refusals(void)
@@ -348,7 +461,7 @@ static void refusals(void)
     list(LIST, 4);
     p.window_marks_bytes = 3;
     p.window_marks[1] = 2;
-    p.marks[0] ^= 0xA5B0000000000000;
+    p.marks[0] ^= 0xA560000000000000;
     refused(WATCH, 6);
 
     fresh("a window mark of 2");
@@ -361,13 +474,13 @@ static void refusals(void)
 static void invalid_arguments(void)
 {
     for (int call = 0; call < CALLS; call++) {
-        for (int sort = 0; sort < 8; sort++) {
+        for (int sort = 0; sort < 10; sort++) {
             /* every word here is one that a call refuses or acts upon */
             fresh("an invalid argument");
             p.word = call == COPROCESSOR_REGISTER ? TO_R15 : call == DATA_PROCESSING ? ADD : LOAD;
             p.state[1] = p.state[2] = 0x3F800000;
             p.base = 2;
-            p.marks[0] ^= 0xA5B0000000000000;
+            p.marks[0] ^= 0xA560000000000000;
             list(LIST, 4);
             switch (sort) {
             case 0: p.state_words--; break;
@@ -377,6 +490,8 @@ static void invalid_arguments(void)
             case 4: p.thumb = 2; break;
             case 5: p.state[FPU_PLACE_FPSCR_FLAGS] = 0x08000000; break;
             case 6: p.state[FPU_PLACE_FPSCR_CONTROL] = 0x10000000; break;
+            case 7: p.state[FPU_PLACE_FPSCR_CONTROL] = 0x00000010; break;
+            case 8: p.state[FPU_PLACE_FPSCR_EXCEPTIONS] = 0x00000020; break;
             default: p.state[FPU_PLACE_NZCV] = 0x00000001; break;
             }
             invalid(call);
@@ -507,20 +622,22 @@ static void sheets(void)
     same_bytes("d15", page + 615, "15 00000001 DEADBEEF UK                 \n", 41);
 
     /* an invalid state comes before a short page */
-    for (int sort = 0; sort < 10; sort++) {
+    for (int sort = 0; sort < 14; sort++) {
         uint8_t kept[FPU_SHEET_BYTES];
         fresh("a sheet of an invalid state");
         memset(page, 0xA5, sizeof page);
         memset(kept, 0xA5, sizeof kept);
-        switch (sort % 5) {
+        switch (sort % 7) {
         case 0: p.state_words--; break;
         case 1: p.state_words++; break;
         case 2: p.state[FPU_PLACE_FPSCR_FLAGS] = 0x08000000; break;
         case 3: p.state[FPU_PLACE_FPSCR_CONTROL] = 0x10000000; break;
+        case 4: p.state[FPU_PLACE_FPSCR_CONTROL] = 0x00000010; break;
+        case 5: p.state[FPU_PLACE_FPSCR_EXCEPTIONS] = 0x00000020; break;
         default: p.state[FPU_PLACE_NZCV] = 0x00000001; break;
         }
         given = p;
-        result(fpu_sheet(p.state, p.state_words, FPU_MARKS_ALL, page, sort < 5 ? FPU_SHEET_BYTES : 655), FPU_INVALID_ARGUMENT);
+        result(fpu_sheet(p.state, p.state_words, FPU_MARKS_ALL, page, sort < 7 ? FPU_SHEET_BYTES : 655), FPU_INVALID_ARGUMENT);
         same_bytes("the page", page, kept, sizeof page);
         unchanged();
     }
@@ -535,6 +652,8 @@ int main(void)
     new_machine();
     single_calls();
     runs();
+    exceptions();
+    marks_of_exceptions();
     refusals();
     invalid_arguments();
     conditions();

@@ -1,4 +1,4 @@
-/* fpu_replay beside an independent reading of document 02's 2026-03: records that are whole, that are damaged in each field alone and in two at once, and
+/* fpu_replay beside an independent reading of document 02's 2026-03 and 2026-07: records that are whole, that are damaged in each field alone and in two at once, and
  * that are cut or drawn out, with lent buffers of the right length and of others. Where the reading finds no refusal, the replay is compared with fpu_watch
  * on the state that the record holds. Each buffer has an element before and behind it that has to stay, and what a refusal may not touch has to stay.
  * It prints a line for each difference and 'replay: N records, M differ', and fails where one differs or a refusal was never seen. */
@@ -17,6 +17,9 @@ static uint32_t number(size_t i)
 {
     return bytes[4 * i] | (uint32_t)bytes[4 * i + 1] << 8 | (uint32_t)bytes[4 * i + 2] << 16 | (uint32_t)bytes[4 * i + 3] << 24;
 }
+
+/* how many instruction words: bit 31 is no part of it */
+static uint32_t counted(void) { return number(0) & 0x7FFFFFFF; }
 
 static void put(size_t i, uint32_t x)
 {
@@ -48,7 +51,7 @@ static void whole(size_t window, size_t list)
     words = FPU_STATE_WORDS + window;
     list_words = list;
     length = 4 * (3 + 2 * words + list);
-    put(0, (uint32_t)list);
+    put(0, 0x80000000 | (uint32_t)list);
     put(1, (uint32_t)words);
     for (size_t w = 0; w < words; w++) {
         put(value(w), draw());
@@ -58,9 +61,10 @@ static void whole(size_t window, size_t list)
         put(value(w), (draw() & 0x807FFFFF) | (120 + draw() % 16) << 23);
     put(value(32), 0x8000 + 4 * (draw() % 4));
     put(value(FPU_PLACE_FPSCR_FLAGS), draw() & 0xF0000000);
-    put(value(FPU_PLACE_FPSCR_CONTROL), draw() % 4 == 0 ? draw() & 0x0FFFFFFF : 0);
+    put(value(FPU_PLACE_FPSCR_CONTROL), draw() % 4 == 0 ? draw() & 0x0FFFFFE0 : 0);
     put(value(FPU_PLACE_FPEXC), draw() % 8 == 0 ? draw() : 0x40000000);
     put(value(FPU_PLACE_NZCV), draw() & 0xF0000000);
+    put(value(FPU_PLACE_FPSCR_EXCEPTIONS), draw() & 0x1F);
     put(base(), 0x8000);
     for (size_t i = 0; i < list; i++)
         put(instruction(i), sorts[draw() % 16] ^ (draw() % 4 == 0 ? (draw() & 0xF) << 12 : 0));
@@ -71,24 +75,24 @@ static uint32_t refusal(size_t window, size_t marks)
 {
     if (length < 8)
         return 9;
-    uint64_t n = number(0), s = number(1);
-    if (length != 4 * (3 + 2 * s + n) || s < 52 || window != s - 52 || marks != s - 52)
+    uint64_t n = counted(), s = number(1);
+    if (number(0) < 0x80000000 || length != 4 * (3 + 2 * s + n) || s < 53 || window != s - 53 || marks != s - 53)
         return 9;
-    if (number(2 + 48) & 0x0FFFFFFF || number(2 + 49) & 0xF0000000 || number(2 + 51) & 0x0FFFFFFF)
+    if (number(2 + 48) & 0x0FFFFFFF || number(2 + 49) & 0xF000001F || number(2 + 51) & 0x0FFFFFFF || number(2 + 52) > 0x1F)
         return 10;
-    for (size_t p = 0; p < 52; p++)
+    for (size_t p = 0; p < 53; p++)
         if (number(2 + s + p) > 1)
             return 10;
     uint64_t at = number(2 + 2 * s);
     if (n > 4096)
         return 1;
-    if (s - 52 > 16384)
+    if (s - 53 > 16384)
         return 2;
     if (at % 4 != 0)
         return 3;
-    if (at + 4 * (s - 52) > (uint64_t)1 << 32)
+    if (at + 4 * (s - 53) > (uint64_t)1 << 32)
         return 4;
-    for (size_t w = 52; w < s; w++)
+    for (size_t w = 53; w < s; w++)
         if (number(2 + s + w) > 1)
             return 7;
     return 0;
@@ -134,18 +138,18 @@ static void tried(const char *what, size_t window, size_t marks, size_t state_wo
         static uint32_t list[FPU_LIST_MOST_WORDS];
         size_t s = number(1);
         expected.marks[1] = 0;
-        for (size_t p = 0; p < 52; p++) {
+        for (size_t p = 0; p < 53; p++) {
             expected.state[1 + p] = number(2 + p);
             expected.marks[1] |= (uint64_t)number(2 + s + p) << p;
         }
         for (size_t w = 0; w < window; w++) {
-            expected.window[1 + w] = number(54 + w);
-            expected.window_marks[1 + w] = (uint8_t)number(2 + s + 52 + w);
+            expected.window[1 + w] = number(55 + w);
+            expected.window_marks[1 + w] = (uint8_t)number(2 + s + 53 + w);
         }
-        for (size_t i = 0; i < number(0); i++)
+        for (size_t i = 0; i < counted(); i++)
             list[i] = number(3 + 2 * s + i);
         as = fpu_watch(expected.state + 1, FPU_STATE_WORDS, expected.marks + 1, expected.window + 1, window, expected.window_marks + 1, marks,
-                       number(2 + 2 * s), 0, list, number(0), expected.answer + 1, FPU_ANSWER_WORDS);
+                       number(2 + 2 * s), 0, list, counted(), expected.answer + 1, FPU_ANSWER_WORDS);
     }
     records++;
     if (result < 256)
@@ -156,7 +160,7 @@ static void tried(const char *what, size_t window, size_t marks, size_t state_wo
 
 static void replayed(const char *what)
 {
-    size_t s = length < 8 || number(1) < 52 || number(1) - 52 > FPU_WINDOW_MOST_WORDS + 1 ? 0 : number(1) - 52;
+    size_t s = length < 8 || number(1) < 53 || number(1) - 53 > FPU_WINDOW_MOST_WORDS + 1 ? 0 : number(1) - 53;
     tried(what, s, s, FPU_STATE_WORDS, FPU_ANSWER_WORDS);
 }
 
@@ -171,13 +175,30 @@ static uint32_t damaged(uint32_t x, unsigned how)
     case 4: return 256;
     case 5: return 0xFFFFFFFF;
     case 6: return 0;
-    case 7: return 51;
+    case 7: return 52;
     case 8: return x ^ 0x08000000;
     case 9: return x ^ 0x10000000;
+    case 10: return x ^ 0x10;
+    case 11: return x ^ 0x20;
     default: return draw();
     }
 }
-enum { WAYS = 11 };
+enum { WAYS = 13 };
+
+/* The record as it was written before place 52: without its value and its mark, FPSCR 4:0 with place 49, and bit 31 of the count clear. */
+static void made_old(void)
+{
+    put(value(FPU_PLACE_FPSCR_CONTROL), number(value(FPU_PLACE_FPSCR_CONTROL)) | number(value(FPU_PLACE_FPSCR_EXCEPTIONS)));
+    for (size_t skipped = 0, i = 0; i < length / 4; i++) {
+        if (i == value(FPU_PLACE_FPSCR_EXCEPTIONS) || i == mark(FPU_PLACE_FPSCR_EXCEPTIONS))
+            skipped++;
+        else
+            put(i - skipped, number(i));
+    }
+    length -= 8;
+    put(0, counted());
+    put(1, (uint32_t)words - 1);
+}
 
 int main(void)
 {
@@ -200,7 +221,7 @@ int main(void)
                 put(i, damaged(was, how));
                 replayed("one number damaged");
                 /* the buffers of the record as it was written */
-                tried("one number damaged, buffers as before", words - 52, words - 52, FPU_STATE_WORDS, FPU_ANSWER_WORDS);
+                tried("one number damaged, buffers as before", words - 53, words - 53, FPU_STATE_WORDS, FPU_ANSWER_WORDS);
                 put(i, was);
             }
         for (int k = 0; k < 4000; k++) {
@@ -228,8 +249,24 @@ int main(void)
             tried("buffers of other lengths and a bit that is no flag", w, v, FPU_STATE_WORDS, FPU_ANSWER_WORDS);
         }
 
+    /* old records, and those of today without bit 31: turned away, every one, whatever the buffers are */
+    unsigned long before = seen[109], old = 0;
+    for (size_t window = 0; window < 4; window++)
+        for (size_t lent = 0; lent < 5; lent++, old += 2) {
+            whole(window, 4);
+            made_old();
+            tried("an old record", lent, lent, FPU_STATE_WORDS, FPU_ANSWER_WORDS);
+            whole(window, 4);
+            put(0, counted());
+            tried("a record without bit 31", lent, lent, FPU_STATE_WORDS, FPU_ANSWER_WORDS);
+        }
+    if (seen[109] != before + old) {
+        differing++;
+        printf("old records: %lu of %lu are turned away with 9\n", seen[109] - before, old);
+    }
+
     /* records of 0 to 12 bytes and counts of up to 2^32 - 1, whatever their bytes are */
-    static const uint32_t counts[] = {0, 1, 2, 51, 52, 53, 0x20000000, 0x7FFFFFFF, 0x80000000, 0xFFFFFFFE, 0xFFFFFFFF};
+    static const uint32_t counts[] = {0, 1, 2, 52, 53, 54, 0x20000000, 0x7FFFFFFF, 0x80000000, 0x80000001, 0xFFFFFFFE, 0xFFFFFFFF};
     for (size_t i = 0; i < sizeof counts / sizeof *counts; i++)
         for (size_t k = 0; k < sizeof counts / sizeof *counts; k++)
             for (length = 0; length <= 64; length++) {
@@ -251,14 +288,14 @@ int main(void)
                     if (sort & 1 && windows[i] > 0)
                         put(mark(words - 1), sort & 8 ? 256 : 2);
                     if (sort & 2)
-                        put(mark(51), 2);
+                        put(mark(52), 2);
                     if (sort & 4)
                         put(value(48), 1);
                     replayed("at the limits");
                 }
 
     /* 255 comes before every refusal */
-    for (size_t s = 51; s <= 53; s++)
+    for (size_t s = 52; s <= 54; s++)
         for (size_t a = 3; a <= 5; a++)
             for (int broken = 0; broken < 2; broken++) {
                 whole(3, 5);

@@ -2,12 +2,21 @@
 
 use std::os::raw::c_uint;
 
-pub const STATE_WORDS: usize = 52;
+pub const STATE_WORDS: usize = 53;
 /// the marks of a machine of which every place is known: bit p is that of place p.
 pub const MARKS_ALL: u64 = (1 << STATE_WORDS) - 1;
 pub const ANSWER_WORDS: usize = 5;
 /// the bytes of a register sheet: 16 lines of 40 characters and a line feed.
 pub const SHEET_BYTES: usize = 656;
+
+/// the cumulative exceptions, FPSCR 4:0, as word 52 of a state has them.
+pub mod exception {
+    pub const INVALID: u32 = 1;
+    pub const DIVISION_BY_ZERO: u32 = 2;
+    pub const OVERFLOW: u32 = 4;
+    pub const UNDERFLOW: u32 = 8;
+    pub const INEXACT: u32 = 16;
+}
 
 extern "C" {
     fn fpu_new(state: *mut u32, state_words: usize) -> c_uint;
@@ -244,7 +253,7 @@ pub struct Ran {
 #[derive(Clone, Copy, PartialEq, Eq, Debug)]
 pub struct InvalidArgument;
 
-/// A machine: the 52 words of its state, and its Thumb bit.
+/// A machine: the 53 words of its state, and its Thumb bit.
 #[derive(Clone, Copy, PartialEq, Eq, Debug)]
 pub struct Machine {
     pub state: [u32; STATE_WORDS],
@@ -310,7 +319,7 @@ impl Machine {
         ran(raw::run(&mut self.state, window, base, self.thumb as u32, list, &mut answer), answer)
     }
 
-    /// bit p of marks is 1 where place p is known, and a window mark where its word is, else 0. Bits 52 to 63 change nothing and are 0 after a
+    /// bit p of marks is 1 where place p is known, and a window mark where its word is, else 0. Bits 53 to 63 change nothing and are 0 after a
     /// run that is not refused.
     pub fn watch(
         &mut self,

@@ -1,5 +1,6 @@
 //! A few calls by the wrapper, and what 255 does.
 
+use fpu::exception::{DIVISION_BY_ZERO, INEXACT, INVALID, OVERFLOW};
 use fpu::{
     grant, operation, raw, replay, Exit, InvalidArgument, Machine, Operation, Ran, Routine, Stop, TurnedAway, MARKS_ALL, OPERATIONS, SHEET_BYTES,
 };
@@ -24,6 +25,24 @@ fn a_sum_and_an_undefined_word() {
     m.thumb = true;
     assert_eq!(m.data_processing(0xEEB7_0A40), Ok(Exit::Undefined { address: 0xFFC, word: 0xEEB7_0A40 }));
     assert_eq!(m.state, before.state);
+}
+
+#[test]
+fn exceptions() {
+    let mut m = Machine::new();
+    (m.state[1], m.state[2]) = (1.0f32.to_bits(), 0x3300_0000);
+    // 1 and 2^-25, then a quotient by zero, 1 and 1, and a move, which set nothing
+    for (word, set) in [(0xEE30_0A81, INEXACT), (0xEE80_0AA1, DIVISION_BY_ZERO), (0xEE30_0AA0, 0), (0xEEB0_0A60, 0)] {
+        let was = m.state[52];
+        assert_eq!(m.data_processing(word), Ok(Exit::Nothing));
+        assert_eq!(m.state[52], was | set);
+    }
+    // a read has them, and a write puts them in their place
+    assert_eq!(m.coprocessor_register(0xEEF1_0A10), Ok(Exit::Nothing));
+    assert_eq!(m.state[32], INEXACT | DIVISION_BY_ZERO);
+    m.state[32] = 0xF0C0_0005;
+    assert_eq!(m.coprocessor_register(0xEEE1_0A10), Ok(Exit::Nothing));
+    assert_eq!((m.state[48], m.state[49], m.state[52]), (0xF000_0000, 0x00C0_0000, INVALID | OVERFLOW));
 }
 
 #[test]
@@ -57,27 +76,27 @@ fn a_load_a_store_and_refusals() {
 
 #[test]
 fn what_255_touches() {
-    let (mut state, mut answer, mut window) = ([1u32; 53], [9u32; 6], [3u32; 2]);
+    let (mut state, mut answer, mut window) = ([1u32; 54], [9u32; 6], [3u32; 2]);
     for words in [48, 49, 51] {
         state[words] = 0;
     }
     let kept = state;
-    assert_eq!(raw::new(&mut state[..51]), 255);
-    assert_eq!(raw::data_processing(&mut state[..53], 0, 0xEE30_0A81, &mut answer[..5]), 255);
-    assert_eq!(raw::data_processing(&mut state[..52], 2, 0xEE30_0A81, &mut answer[..5]), 255);
-    assert_eq!(raw::coprocessor_register(&mut state[..52], 0, 0xEE10_FA90, &mut answer[..4]), 255);
-    assert_eq!(raw::coprocessor_load_store(&mut state[..52], &mut window, 1, 0, 0xED90_0A00, &mut answer), 255);
+    assert_eq!(raw::new(&mut state[..52]), 255);
+    assert_eq!(raw::data_processing(&mut state[..54], 0, 0xEE30_0A81, &mut answer[..5]), 255);
+    assert_eq!(raw::data_processing(&mut state[..53], 2, 0xEE30_0A81, &mut answer[..5]), 255);
+    assert_eq!(raw::coprocessor_register(&mut state[..53], 0, 0xEE10_FA90, &mut answer[..4]), 255);
+    assert_eq!(raw::coprocessor_load_store(&mut state[..53], &mut window, 1, 0, 0xED90_0A00, &mut answer), 255);
     assert_eq!((state, answer, window), (kept, [9; 6], [3; 2]));
-    for (place, bit) in [(48, 0x0800_0000), (49, 0x1000_0000), (51, 1)] {
+    for (place, bit) in [(48, 0x0800_0000), (49, 0x1000_0000), (49, 0x10), (51, 1), (52, 0x20)] {
         let mut m = Machine::new();
         m.state[place] |= bit;
         let before = m;
         assert_eq!(m.data_processing(0xEE30_0A81), Err(InvalidArgument));
         assert_eq!(m, before);
     }
-    state[52] = 0;
+    state[53] = 0;
     answer = [9; 6];
-    assert_eq!(raw::data_processing(&mut state[..52], 0, 0xEE30_0A81, &mut answer[..5]), 0);
+    assert_eq!(raw::data_processing(&mut state[..53], 0, 0xEE30_0A81, &mut answer[..5]), 0);
     assert_eq!(answer, [0, 0, 0, 0, 0, 9]);
 }
 
@@ -124,13 +143,23 @@ fn a_run() {
 }
 
 #[test]
+fn exceptions_accumulate() {
+    let mut m = Machine::new();
+    m.state[0] = 0x3F80_0000;
+    m.state[1] = 0x3300_0000;
+    // s2 = s0 + s1, inexact; s3 = s0 / s4, by zero
+    assert_eq!(m.run(&mut [], 0, &[0xEE30_1A20, 0xEEC0_1A02]), Ok(Ran { stop: Stop::Finished, count: 2, known: 0 }));
+    assert_eq!((m.state[2], m.state[3], m.state[52]), (0x3F80_0000, 0x7F80_0000, 0b10010));
+}
+
+#[test]
 fn a_watched_run() {
     let mut m = Machine::new();
-    let mut marks = MARKS_ALL - 1 + (0xFFF << 52);
+    let mut marks = MARKS_ALL - 1 + (0x7FF << 53);
     assert_eq!(m.watch(&mut marks, &mut [], &mut [], 0, &LIST), Ok(Ran { stop: Stop::Hangs(51), count: 3, known: 49 }));
-    assert_eq!(marks, MARKS_ALL & !(1 | 1 << 48 | 1 << 51));
+    assert_eq!(marks, MARKS_ALL & !(1 | 1 << 48 | 1 << 51 | 1 << 52));
 
-    marks |= 0xA5B << 52;
+    marks |= 0x52D << 53;
     let (before, kept) = (m, marks);
     assert_eq!(m.watch(&mut marks, &mut [5], &mut [], 0, &LIST), Ok(Ran { stop: Stop::Refused(6), count: 0, known: 49 }));
     assert_eq!(m.watch(&mut marks, &mut [5], &mut [2], 0, &LIST), Ok(Ran { stop: Stop::Refused(7), count: 0, known: 49 }));
@@ -172,7 +201,7 @@ fn pages_of_a_sheet() {
             assert_eq!((result, &page[..SHEET_BYTES], &page[SHEET_BYTES..]), (0, &sheet[..], &[0xA5; 2][..]));
         }
         page = [0xA5; SHEET_BYTES + 2];
-        assert_eq!(raw::sheet(&state[..51], MARKS_ALL, &mut page[..bytes]), 255);
+        assert_eq!(raw::sheet(&state[..52], MARKS_ALL, &mut page[..bytes]), 255);
         assert_eq!(page, [0xA5; SHEET_BYTES + 2]);
     }
 }
@@ -195,7 +224,7 @@ fn grants() {
 /// A record of a state, its marks, a window of which every word is known, a base and a list.
 fn record(state: &[u32], marks: u64, window: &[u32], base: u32, list: &[u32]) -> Vec<u8> {
     let words = state.len() + window.len();
-    let mut numbers = vec![list.len() as u32, words as u32];
+    let mut numbers = vec![0x8000_0000 | list.len() as u32, words as u32];
     numbers.extend(state.iter().chain(window));
     numbers.extend((0..state.len()).map(|p| (marks >> p & 1) as u32).chain(window.iter().map(|_| 1)));
     numbers.push(base);
@@ -216,7 +245,12 @@ fn a_record() {
     assert_eq!(Ok(ran), m.watch(&mut marks, &mut window, &mut window_marks, 0x8000, &list));
     assert_eq!((left, known, w, v), (m, marks, window, window_marks));
     assert_eq!((known & 1, v), (0, [1, 0, 1]));
-    let (left, known, ran) = replay(&bytes[1..], &mut w, &mut v);
-    assert_eq!((left, known, ran), (Machine::new(), 0, Ran { stop: Stop::Refused(9), count: 0, known: 2 }));
-    assert_eq!((w, v), (window, window_marks));
+    // a byte short, and with bit 31 of the first number clear
+    let mut old = bytes.clone();
+    old[3] = 0;
+    for refused in [&bytes[1..], &old] {
+        let (left, known, ran) = replay(refused, &mut w, &mut v);
+        assert_eq!((left, known, ran), (Machine::new(), 0, Ran { stop: Stop::Refused(9), count: 0, known: 2 }));
+        assert_eq!((w, v), (window, window_marks));
+    }
 }

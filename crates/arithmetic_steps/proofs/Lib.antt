@@ -1,3 +1,3 @@
 -- Laws of the crate's proofs, over the precision.
 
-mod Steps
+pub mod Steps

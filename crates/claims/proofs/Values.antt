@@ -2,11 +2,12 @@
 use mathlib.Core.Path.{refl}
 use lib.Ieee.{ofBits, toBits, nanBits, eq, lt, isNan}
 use Rattle.machine.specs.Window.{wordAt}
-use Rattle.numbers.specs.Compare.{compareFlags}
+use Rattle.numbers.specs.Compare.{compareFlags, compareExceptions}
 use Rattle.floats.specs.Flush.{flush}
-use Rattle.rounding.specs.Rounding.{roundingOf, rounded}
-use Rattle.widths.specs.Convert.{narrowed, narrowNumber, narrow}
-use Rattle.integers.specs.Integer.{integerOf, toInteger}
+use Rattle.rounding.specs.Rounding.{roundingOf, rounded, exact, over, tiny}
+use Rattle.exceptions.specs.Exceptions.{fractionExceptions}
+use Rattle.widths.specs.Convert.{narrowed, narrowNumber, narrow, narrowedExceptions, narrowExceptions}
+use Rattle.integers.specs.Integer.{integerOf, toInteger, integerExceptions, toIntegerExceptions}
 use Rattle.meaning.specs.Step.{after}
 use Rattle.meaning.specs.Tree.{plain}
 use Rattle.memory.specs.LoadStore.{accessTree, loadStoreTree}
@@ -17,7 +18,7 @@ use Rattle.limits.specs.Limit.{windowLimit}
 use Rattle.claims.specs.Values.{Values}
 
 pub values : Values
-unfolding dataTree operationTree operationOf operationBy extensionBy stepOf secondOf after plain toInteger integerOf roundingOf compareFlags narrow narrowNumber narrowed rounded flush ofBits toBits nanBits eq lt isNan loadStoreTree accessTree wordAt windowLimit
+unfolding dataTree operationTree operationOf operationBy extensionBy stepOf secondOf after plain toInteger integerOf roundingOf compareFlags narrow narrowNumber narrowed rounded narrowExceptions narrowedExceptions fractionExceptions exact over tiny integerExceptions toIntegerExceptions compareExceptions flush ofBits toBits nanBits eq lt isNan loadStoreTree accessTree wordAt windowLimit
 values =
     record {
       two-and-a-half = λ v. refl;

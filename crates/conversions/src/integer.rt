@@ -1,11 +1,12 @@
-// From and to integers, which stand in singles.
+// From and to integers, which stand in singles. Each gives FPSCR with what was raised.
 ghost use lib.Ieee.{binary32, binary64};
-ghost use Rattle.short_vectors.specs.Register.{Stepped, SteppedWith};
+ghost use Rattle.short_vectors.specs.Register.{SteppedWith};
 ghost use Rattle.conversions.specs.Integer.{fromStep, truncateStep, roundStep};
 use integers::integer::from_integer32;
 use integers::integer::from_integer64;
 use integers::integer::to_integer32;
 use integers::integer::to_integer64;
+use machine::place::control_of;
 use machine::registers::Double;
 use machine::registers::Single;
 use machine::registers::get_double;
@@ -14,45 +15,52 @@ use machine::registers::set_double;
 use machine::registers::set_single;
 use rounding::rounding::Rounding;
 use rounding::rounding::rounding_of;
+use short_vectors::raise::raise;
 
-pub fn from_integer_single(s: &mut [u32; 32], fpscr: u32, signed: bool, d: Single, m: Single)
-    ensures { λ _. ⌜ SteppedWith (fromStep binary32 signed (d .0) (m .0)) fpscr (now (s .entry)) fpscr (now (s .exit)) ⌝ }
+pub fn from_integer_single(s: &mut [u32; 32], fpscr: u32, signed: bool, d: Single, m: Single) -> u32
+    ensures { λ r. ⌜ SteppedWith (fromStep binary32 signed (d .0) (m .0)) fpscr (now (s .entry)) r (now (s .exit)) ⌝ }
 {
-    let x = from_integer32(fpscr % 0x1000_0000, signed, get_single(s, m));
-    set_single(s, d, x.bits);
+    let rounded = from_integer32(control_of(fpscr), signed, get_single(s, m));
+    set_single(s, d, rounded.bits);
+    raise(fpscr, rounded.exceptions)
 }
 
-pub fn from_integer_double(s: &mut [u32; 32], signed: bool, d: Double, m: Single)
-    ensures { λ _. ⌜ Stepped (fromStep binary64 signed (d .0) (m .0)) (now (s .entry)) (now (s .exit)) ⌝ }
+pub fn from_integer_double(s: &mut [u32; 32], fpscr: u32, signed: bool, d: Double, m: Single) -> u32
+    ensures { λ r. ⌜ SteppedWith (fromStep binary64 signed (d .0) (m .0)) fpscr (now (s .entry)) r (now (s .exit)) ⌝ }
 {
     let x = from_integer64(signed, get_single(s, m));
     set_double(s, d, x.bits);
+    raise(fpscr, x.exceptions)
 }
 
-pub fn truncate_single(s: &mut [u32; 32], signed: bool, d: Single, m: Single)
-    ensures { λ _. ⌜ Stepped (truncateStep binary32 signed (d .0) (m .0)) (now (s .entry)) (now (s .exit)) ⌝ }
+pub fn truncate_single(s: &mut [u32; 32], fpscr: u32, signed: bool, d: Single, m: Single) -> u32
+    ensures { λ r. ⌜ SteppedWith (truncateStep binary32 signed (d .0) (m .0)) fpscr (now (s .entry)) r (now (s .exit)) ⌝ }
 {
     let x = to_integer32(Rounding::Zero, signed, get_single(s, m));
     set_single(s, d, x.bits);
+    raise(fpscr, x.exceptions)
 }
 
-pub fn truncate_double(s: &mut [u32; 32], signed: bool, d: Single, m: Double)
-    ensures { λ _. ⌜ Stepped (truncateStep binary64 signed (d .0) (m .0)) (now (s .entry)) (now (s .exit)) ⌝ }
+pub fn truncate_double(s: &mut [u32; 32], fpscr: u32, signed: bool, d: Single, m: Double) -> u32
+    ensures { λ r. ⌜ SteppedWith (truncateStep binary64 signed (d .0) (m .0)) fpscr (now (s .entry)) r (now (s .exit)) ⌝ }
 {
     let x = to_integer64(Rounding::Zero, signed, get_double(s, m));
     set_single(s, d, x.bits);
+    raise(fpscr, x.exceptions)
 }
 
-pub fn round_single(s: &mut [u32; 32], fpscr: u32, signed: bool, d: Single, m: Single)
-    ensures { λ _. ⌜ SteppedWith (roundStep binary32 signed (d .0) (m .0)) fpscr (now (s .entry)) fpscr (now (s .exit)) ⌝ }
+pub fn round_single(s: &mut [u32; 32], fpscr: u32, signed: bool, d: Single, m: Single) -> u32
+    ensures { λ r. ⌜ SteppedWith (roundStep binary32 signed (d .0) (m .0)) fpscr (now (s .entry)) r (now (s .exit)) ⌝ }
 {
-    let x = to_integer32(rounding_of(fpscr % 0x1000_0000), signed, get_single(s, m));
+    let x = to_integer32(rounding_of(control_of(fpscr)), signed, get_single(s, m));
     set_single(s, d, x.bits);
+    raise(fpscr, x.exceptions)
 }
 
-pub fn round_double(s: &mut [u32; 32], fpscr: u32, signed: bool, d: Single, m: Double)
-    ensures { λ _. ⌜ SteppedWith (roundStep binary64 signed (d .0) (m .0)) fpscr (now (s .entry)) fpscr (now (s .exit)) ⌝ }
+pub fn round_double(s: &mut [u32; 32], fpscr: u32, signed: bool, d: Single, m: Double) -> u32
+    ensures { λ r. ⌜ SteppedWith (roundStep binary64 signed (d .0) (m .0)) fpscr (now (s .entry)) r (now (s .exit)) ⌝ }
 {
-    let x = to_integer64(rounding_of(fpscr % 0x1000_0000), signed, get_double(s, m));
+    let x = to_integer64(rounding_of(control_of(fpscr)), signed, get_double(s, m));
     set_single(s, d, x.bits);
+    raise(fpscr, x.exceptions)
 }

@@ -1,25 +1,29 @@
-// Between single and double.
+// Between single and double. Each gives FPSCR with what was raised.
 ghost use Rattle.short_vectors.specs.Register.{SteppedWith};
 ghost use Rattle.conversions.specs.Width.{widenStep, narrowStep};
+use machine::place::control_of;
 use machine::registers::Double;
 use machine::registers::Single;
 use machine::registers::get_double;
 use machine::registers::get_single;
 use machine::registers::set_double;
 use machine::registers::set_single;
+use short_vectors::raise::raise;
 use widths::convert::narrow;
 use widths::convert::widen;
 
-pub fn widen_single(s: &mut [u32; 32], fpscr: u32, d: Double, m: Single)
-    ensures { λ _. ⌜ SteppedWith (widenStep (d .0) (m .0)) fpscr (now (s .entry)) fpscr (now (s .exit)) ⌝ }
+pub fn widen_single(s: &mut [u32; 32], fpscr: u32, d: Double, m: Single) -> u32
+    ensures { λ r. ⌜ SteppedWith (widenStep (d .0) (m .0)) fpscr (now (s .entry)) r (now (s .exit)) ⌝ }
 {
-    let x = widen(fpscr % 0x1000_0000, get_single(s, m));
-    set_double(s, d, x.bits);
+    let widened = widen(control_of(fpscr), get_single(s, m));
+    set_double(s, d, widened.bits);
+    raise(fpscr, widened.exceptions)
 }
 
-pub fn narrow_double(s: &mut [u32; 32], fpscr: u32, d: Single, m: Double)
-    ensures { λ _. ⌜ SteppedWith (narrowStep (d .0) (m .0)) fpscr (now (s .entry)) fpscr (now (s .exit)) ⌝ }
+pub fn narrow_double(s: &mut [u32; 32], fpscr: u32, d: Single, m: Double) -> u32
+    ensures { λ r. ⌜ SteppedWith (narrowStep (d .0) (m .0)) fpscr (now (s .entry)) r (now (s .exit)) ⌝ }
 {
-    let x = narrow(fpscr % 0x1000_0000, get_double(s, m));
-    set_single(s, d, x.bits);
+    let narrowed = narrow(control_of(fpscr), get_double(s, m));
+    set_single(s, d, narrowed.bits);
+    raise(fpscr, narrowed.exceptions)
 }

@@ -9,6 +9,7 @@ ghost use Rattle.processing_marks.specs.Marked.{Marked};
 use bits::field::bits;
 use decoding::operation::Operation;
 use decoding::operation::arithmetic_of;
+use machine::place::control_of;
 use step_marks::mark_compare;
 use step_marks::mark_compare_zero;
 use step_marks::mark_convert;
@@ -37,6 +38,7 @@ pub fn mark_data(marks: u64, fpscr: u32, o: Operation, op: u32) -> u64
 fn mark_operation(marks: u64, fpscr: u32, double: bool, o: Operation, op: u32) -> u64
     ensures { λ y. ⌜ Marked (namedTree (precision double) op o) fpscr marks y ⌝ }
 {
+    let control = control_of(fpscr);
     match o {
         Operation::Fmac
         | Operation::Fnmac
@@ -46,17 +48,11 @@ fn mark_operation(marks: u64, fpscr: u32, double: bool, o: Operation, op: u32) -
         | Operation::Fnmul
         | Operation::Fadd
         | Operation::Fsub
-        | Operation::Fdiv => mark_arithmetic(
-            marks,
-            fpscr % 0x1000_0000,
-            double,
-            arithmetic_of(o),
-            op,
-        ),
+        | Operation::Fdiv => mark_arithmetic(marks, control, double, arithmetic_of(o), op),
         Operation::Fcpy | Operation::Fabs | Operation::Fneg => {
-            mark_signs(marks, fpscr % 0x1000_0000, double, op)
+            mark_signs(marks, control, double, op)
         }
-        Operation::Fsqrt => mark_roots(marks, fpscr % 0x1000_0000, double, op),
+        Operation::Fsqrt => mark_roots(marks, control, double, op),
         Operation::Fcmp | Operation::Fcmpe => mark_compare(marks, double, op),
         Operation::Fcmpz | Operation::Fcmpez => mark_compare_zero(marks, double, op),
         Operation::Fcvt => mark_convert(marks, double, op),

@@ -19,6 +19,7 @@ use processing_marks::vector::arithmetic_singles;
 use processing_marks::vector::copy_doubles;
 use processing_marks::vector::copy_singles;
 use processing_marks::vector::root_doubles;
+use processing_marks::vector::root_singles;
 
 pub(crate) fn mark_arithmetic(
     marks: u64,
@@ -66,5 +67,5 @@ pub(crate) fn mark_roots(marks: u64, control: u32, double: bool, op: u32) -> u64
     if double {
         return root_doubles(marks, control, double_d(op), double_m(op));
     }
-    copy_singles(marks, control, single_d(op), single_m(op))
+    root_singles(marks, control, single_d(op), single_m(op))
 }

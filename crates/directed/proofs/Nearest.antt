@@ -6,13 +6,11 @@ use mathlib.Core.Bool.{Bool, false, not}
 use lib.Dec.{T}
 use lib.Ieee.{Float, Format, top, neg, add, sub, isNan, ofBits, toBits}
 use lib.Ieee.Bits.{toBits-ofBits}
-use Rattle.floats.specs.Flush.{flush}
-use Rattle.floats.proofs.Flushing.{not-subnormal, flush-none}
 use Rattle.rounding.specs.Rounding.{roundingOf}
 use Rattle.rounding.specs.declared.rounding.Rounding.{Rounding}
 use Rattle.rounding.specs.declared.rounding.Rounding.the-variants.{Nearest}
 use Rattle.operators.specs.Operators.{sum, difference, product, quotient}
-use Rattle.numbers.specs.Arithmetic.{apply, applied, IsQuick}
+use Rattle.numbers.specs.Arithmetic.{apply, applied}
 use Rattle.numbers.specs.declared.arithmetic.Arithmetic.{Arithmetic}
 use Rattle.numbers.specs.declared.arithmetic.Arithmetic.the-variants.{MultiplyAccumulate, MultiplySubtract, NegateMultiplySubtract, NegateMultiplyAccumulate, Multiply, NegateMultiply, Add, Subtract, Divide}
 use Rattle.numbers.proofs.Applying.{word-of-value}
@@ -48,11 +46,3 @@ native-applied f control kind n m d p q r z h =
         applied-value f control kind n m d p q r
         ∙ ap (λ (mode : Rounding). applyBy mode f kind (ofBits f n) (ofBits f m) (ofBits f d)) (mode-nearest control z)
         ∙ apply-nearest f kind (ofBits f n) (ofBits f m) (ofBits f d)
-
--- and where it is no subnormal either, it is stored as it is
-pub quick-stored : (f : Format) (control : ℕ) (kind : Arithmetic) (n m d bits : ℕ) → n < 2 * top f → m < 2 * top f → d < 2 * top f → control / 2 ^ 22 % 4 ≡ 0
-    → IsQuick f kind n m d bits → bits ≡ arithmeticBy f control kind n m d
-unfolding arithmeticBy
-quick-stored f control kind n m d bits p q r z k =
-    sym (flush-none f control bits (not-subnormal f bits (k .normal)))
-    ∙ ap (flush f control) (k .word ∙ native-applied f control kind n m d p q r z (k .number))

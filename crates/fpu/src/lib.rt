@@ -1,4 +1,4 @@
-// The C interface: a machine is a state of 52 words, places 0 to 51 in order. include/fpu.h says what callers have to know.
+// The C interface: a machine is a state of 53 words, places 0 to 52 in order. include/fpu.h says what callers have to know.
 pub mod grant;
 pub mod operation;
 pub mod recorded;

@@ -10,8 +10,8 @@
 //     window BASE COUNT     so many words of memory (decimal) from an address on (hexadecimal)
 //
 // Spaces and tabs stand between words, a '#' starts a comment, a line may end in CR LF. A place is s0 to s31, r0 to r15, flags (FPSCR
-// 31:28), control (FPSCR 27:0), fpexc, nzcv, w0 on (a word of the window) or its number. The value of flags and of nzcv has four
-// bits, that of control 28. All that is not said is known and as a new machine has it; the window's words are 0. A set makes
+// 31:28), control (FPSCR 27:5), fpexc, nzcv, exceptions (FPSCR 4:0), w0 on (a word of the window) or its number. The value of flags and of
+// nzcv has four bits, that of exceptions five, and that of control bits 27 to 5 in position. All that is not said is known and as a new machine has it; the window's words are 0. A set makes
 // no place known: one that is unknown stays so, whatever it is set to.
 //
 // A mistake is answered with its line and what was expected there, and nothing is run.
@@ -36,7 +36,7 @@ use script::item::Layout;
 use script::text::Taken;
 
 // The word of marks in which every place is known: a bit for each place before the window.
-const ALL_KNOWN: u64 = 0xF_FFFF_FFFF_FFFF;
+const ALL_KNOWN: u64 = 0x1F_FFFF_FFFF_FFFF;
 
 // Reads the text, and does with it what the mode says.
 fn take_text(mode: Mode, text: &[u8]) {

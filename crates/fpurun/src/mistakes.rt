@@ -37,11 +37,15 @@ fn print_item(line: usize, e: Expected) {
         ),
         Expected::Place => expected(
             line,
-            b"a place: s0 to s31, r0 to r15, flags, control, fpexc, nzcv, w0 on, or its number",
+            b"a place: s0 to s31, r0 to r15, flags, control, fpexc, nzcv, exceptions, w0 on, or its number",
         ),
         Expected::Value => expected(line, b"a value of 1 to 8 hexadecimal digits"),
         Expected::Flags => expected(line, b"a value of four bits, 0 to F"),
-        Expected::Control => expected(line, b"a value of 28 bits, 0 to FFFFFFF"),
+        Expected::Control => expected(
+            line,
+            b"a value of bits 27 to 5, a multiple of 20 up to FFFFFE0",
+        ),
+        Expected::Exceptions => expected(line, b"a value of five bits, 0 to 1F"),
         Expected::Base => expected(line, b"a base of 1 to 8 hexadecimal digits"),
         Expected::Count => expected(line, b"a count of words in decimal"),
         Expected::End => expected(line, b"the line's end"),

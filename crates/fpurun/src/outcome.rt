@@ -1,12 +1,16 @@
-// Writes what came of a run: the stop, the places that are unknown, what changed, and the register sheet. What each line says is a definition of
+// Writes what came of a run: the stop, the places that are unknown, what changed, the exceptions, and the register sheet. What each line says is a definition of
 // crates `report`, `place_lines` and `sheet`.
 use super::output::print;
 use super::words;
 use libc::STDOUT_FILENO;
+use machine::place::EXCEPTIONS;
 use machine::place::WINDOW;
+use place_lines::exceptions;
 use place_lines::place;
+use place_marks::place::is_known;
 use place_values::place::next_change;
 use place_values::place::next_unknown;
+use place_values::place::word;
 use report::line;
 use sheet::SHEET_BYTES;
 
@@ -68,6 +72,21 @@ fn changed(
     text(b"\n");
 }
 
+// The exceptions by their names, where they are told.
+fn raised(state: &[u32], marks: u64, s: &[u32], m: u64) {
+    let old = word(state, EXCEPTIONS);
+    let new = word(s, EXCEPTIONS);
+    if exceptions::is_told(
+        is_known(marks, EXCEPTIONS),
+        old,
+        is_known(m, EXCEPTIONS),
+        new,
+    ) {
+        print(exceptions::exceptions(new));
+        text(b"\n");
+    }
+}
+
 // All of it, beside what was there before the run.
 pub fn report(
     kind: u32,
@@ -85,6 +104,7 @@ pub fn report(
     stop(kind, answer, list, s, m, w.len() + WINDOW);
     unknown(m, v);
     changed(state, marks, window, window_marks, s, m, w, v);
+    raised(state, marks, s, m);
 }
 
 pub fn sheet(state: &[u32], marks: u64) {

@@ -5,6 +5,7 @@ use super::output::low;
 use super::output::print;
 use libc::STDOUT_FILENO;
 use machine::place::WINDOW;
+use record_numbers::count::list_count;
 use record_numbers::fill;
 use record_numbers::number_at;
 use record_refusal::field;
@@ -64,7 +65,7 @@ fn tell(kind: u32, answer: [u32; 5], bytes: &[u8], s: &[u32], m: u64, w: &[u32],
     if bytes.len() < 4 {
         return;
     }
-    let n = index(number_at(bytes, 0));
+    let n = list_count(bytes);
     if 4096 < n {
         return;
     }
@@ -158,7 +159,7 @@ fn refused(kind: u32) {
         104 => reason(b", a window that ends beyond memory, base + 4 * count above 2^32\n"),
         107 => reason(b", a mark of a window word that is neither 0 nor 1\n"),
         109 => reason(
-            b", not as many bytes as the counts call for, or fewer than 52 state words\n",
+            b", bit 31 of the first number clear, not as many bytes as the counts call for, or fewer than 53 state words\n",
         ),
         _ => reason(
             b", a bit outside a place's own, or a mark before the window that is neither 0 nor 1\n",
@@ -171,7 +172,7 @@ pub fn too_long() {
 }
 
 // The bytes of the longest record that a text can make: of 4,096 instruction words and a window of 16,384.
-const LONGEST: usize = 147_884;
+const LONGEST: usize = 147_892;
 
 // Writes a record to the file that the third argument names.
 pub fn write(

@@ -37,7 +37,7 @@ pub undefined : (thumb : Bool) (w : ℕ) (st : State) (μ : Map) → cond (known
 unfolding hangOf
 undefined thumb w st μ = refl
 
--- ---- where FPSCR 27:0 is known, no word of data processing hangs that is defined, and where r15 is known too, none does
+-- ---- where FPSCR 27:5 is known, no word of data processing hangs that is defined, and where r15 is known too, none does
 
 pub both : (a b : Bool) → (a && b) ≡ true → (a ≡ true) × (b ≡ true)
 both true b e = (refl, e)

@@ -19,7 +19,7 @@ use machine::place::PC;
 use place_marks::place::is_known;
 use place_marks::registers::core_known;
 
-// Data processing hangs on FPSCR 27:0 or on r15; where both are known, as they mostly are, the word need not be looked at. By the
+// Data processing hangs on FPSCR 27:5 or on r15; where both are known, as they mostly are, the word need not be looked at. By the
 // coprocessor: any but 10 and 11 is Undefined.
 pub fn hang_data(marks: u64, o: Operation, op: u32) -> Hang
     requires { ⌜ o ≡ operationOf op ⌝ }
@@ -38,7 +38,7 @@ pub fn hang_data(marks: u64, o: Operation, op: u32) -> Hang
     asked(core_known(marks, 15), PC)
 }
 
-// An Undefined word hangs on r15 and a stepping word on FPSCR 27:0, in either precision.
+// An Undefined word hangs on r15 and a stepping word on FPSCR 27:5, in either precision.
 fn hang_operation(marks: u64, o: Operation) -> Hang
     ensures { λ h. ⌜ ((f : Format) (op : ℕ) (st : State) (w : List ℕ) → hangIs h ≡ hangOf (operationTree false f op o) st (mapIn marks w)) ⌝ }
 {

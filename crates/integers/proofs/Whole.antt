@@ -158,23 +158,16 @@ module _ (f : Format) (mode : Rounding) (signed : Bool) (w bits : ℕ) where
   pub unsigned : signed ≡ false → bits ≡ toBits f (rounded mode f false w 1) → bits ≡ fromInteger f mode signed w
   unsigned e p = p ∙ sym (value-is f mode false (leb (2 ^ 31) w) signed w e refl)
 
--- what it raises
-size-is : (g n : Bool) (signed : Bool) (w : ℕ) → signed ≡ g → leb (2 ^ 31) w ≡ n → cond (signed && leb (2 ^ 31) w) (2 ^ 32 - w) w ≡ cond (g && n) (2 ^ 32 - w) w
-size-is g n signed w p q = rw (p, q)
+-- where the word's sign is found by one test
+module _ (f : Format) (signed : Bool) (w : ℕ) (negative : Bool) (e : (signed && leb (2 ^ 31) w) ≡ negative) where
+  pub by-sign : (mode : Rounding) (bits : ℕ) → bits ≡ toBits f (cond negative (rounded mode f true (2 ^ 32 - w) 1) (rounded mode f false w 1)) → bits ≡ fromInteger f mode signed w
+  unfolding fromInteger
+  by-sign mode bits p = p ∙ ap (λ (t : Bool). toBits f (cond t (rounded mode f true (2 ^ 32 - w) 1) (rounded mode f false w 1))) (sym e)
 
-module _ (f : Format) (signed : Bool) (w raised : ℕ) where
-  of-size : (n : ℕ) → cond (signed && leb (2 ^ 31) w) (2 ^ 32 - w) w ≡ n → raised ≡ cond (exact f n 1) 0 inexact → raised ≡ fromIntegerExceptions f signed w
+  -- what it raises
+  pub raises-by-sign : (raised : ℕ) → raised ≡ cond (exact f (cond negative (2 ^ 32 - w) w) 1) 0 inexact → raised ≡ fromIntegerExceptions f signed w
   unfolding fromIntegerExceptions
-  of-size n e p = p ∙ ap (λ (z : ℕ). cond (exact f z 1) 0 inexact) (sym e)
-
-  pub below-raises : signed ≡ true → 2 ^ 31 ≤ w → raised ≡ cond (exact f (2 ^ 32 - w) 1) 0 inexact → raised ≡ fromIntegerExceptions f signed w
-  below-raises e h p = of-size (2 ^ 32 - w) (size-is true true signed w e (le-leb (2 ^ 31) w h)) p
-
-  pub up-raises : signed ≡ true → w < 2 ^ 31 → raised ≡ cond (exact f w 1) 0 inexact → raised ≡ fromIntegerExceptions f signed w
-  up-raises e h p = of-size w (size-is true false signed w e (lt-leb (2 ^ 31) w h)) p
-
-  pub unsigned-raises : signed ≡ false → raised ≡ cond (exact f w 1) 0 inexact → raised ≡ fromIntegerExceptions f signed w
-  unsigned-raises e p = of-size w (size-is false (leb (2 ^ 31) w) signed w e refl) p
+  raises-by-sign raised p = p ∙ ap (λ (t : Bool). cond (exact f (cond t (2 ^ 32 - w) w) 1) 0 inexact) (sym e)
 
 -- ---- a double as a whole number
 

@@ -69,11 +69,9 @@ pub fn from_integer32(control: u32, signed: bool, w: u32) -> Raised32
     ensures { λ r. ⌜ (r .bits ≡ fromInteger binary32 (roundingOf control) signed w) × (r .exceptions ≡ fromIntegerExceptions binary32 signed w) ⌝ }
 {
     let n = w as u64;
-    if signed {
-        if n >= 0x8000_0000 {
-            return raised(whole32(control, true, 0x1_0000_0000 - n));
-        }
-        return raised(whole32(control, false, n));
+    let negative = signed & (n >= 0x8000_0000);
+    if negative {
+        return raised(whole32(control, true, 0x1_0000_0000 - n));
     }
     raised(whole32(control, false, n))
 }
@@ -140,15 +138,14 @@ fn is_outside(signed: bool, negative: bool, n: u64) -> bool
 fn clamp_raised(signed: bool, negative: bool, n: u64, exact: bool) -> Raised32
     ensures { λ r. ⌜ (r .bits ≡ clamped signed negative n) × (r .exceptions ≡ clampedExceptions signed negative n exact) ⌝ }
 {
-    let bits = clamp(signed, negative, n);
     if is_outside(signed, negative, n) {
         return Raised32 {
-            bits,
+            bits: clamp(signed, negative, n),
             exceptions: INVALID,
         };
     }
     Raised32 {
-        bits,
+        bits: clamp(signed, negative, n),
         exceptions: settled(exact, false, false),
     }
 }

@@ -38,8 +38,8 @@ pub before-counted : (m : ℕ) → ones (m % 2 ^ before) ≡ knownBefore (marksO
 unfolding knownBefore wordOf
 before-counted m = ap ones (sym (word-marks m)) ∙ bits-counted _
 
-pub before-le : (m : ℕ) → ones (m % 2 ^ before) ≤ 52
-before-le m = C.ones-le 52 (m % 2 ^ before) (mod-lt m (pow-pos 52))
+pub before-le : (m : ℕ) → ones (m % 2 ^ before) ≤ before
+before-le m = C.ones-le before (m % 2 ^ before) (mod-lt m (pow-pos before))
 
 -- ---- the window
 

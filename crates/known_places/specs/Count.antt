@@ -12,7 +12,7 @@ trues (b ∷ bs) = oneOf b + trues bs
 
 -- of the places before the window
 unfoldable pub knownBefore : Marks → ℕ
-knownBefore k = trues (k .s ++ (k .r ++ (k .flags ∷ k .control ∷ k .exc ∷ k .nzcv ∷ [])))
+knownBefore k = trues (k .s ++ (k .r ++ (k .flags ∷ k .control ∷ k .exc ∷ k .nzcv ∷ k .exceptions ∷ [])))
 
 -- of all places
 unfoldable pub knownPlaces : Map → ℕ

@@ -3,6 +3,7 @@ ghost use mathlib.Core.Path.{_≡_};
 ghost use Prim.Native.Nat.{_<_, _≤_};
 ghost use lib.ListN.{length, set};
 ghost use Rattle.bits.specs.Psr.{oneOf};
+ghost use Rattle.machine.specs.Place.{before};
 ghost use Rattle.machine.specs.Window.{wordAt};
 ghost use Rattle.limits.specs.Marks.{onesOf};
 ghost use Rattle.place_marks.specs.Word.{marksOf};
@@ -13,9 +14,9 @@ use place_marks::window::byte_of;
 
 // Of the places before the window. Bits above the last place do not count.
 pub fn known_before(marks: u64) -> usize
-    ensures { λ n. ⌜ (n ≡ knownBefore (marksOf marks)) × (n ≤ 52) ⌝ }
+    ensures { λ n. ⌜ (n ≡ knownBefore (marksOf marks)) × (n ≤ before) ⌝ }
 {
-    u64::count_ones(marks % 0x10_0000_0000_0000) as usize
+    u64::count_ones(marks % 0x20_0000_0000_0000) as usize
 }
 
 // The ones among a window's marks once a word is marked, from those before. Outside the window a mark is dropped.

@@ -9,6 +9,7 @@ use lib.ListN.{length, length-set, take, drop, getD, set}
 use lib.Seq.{take-suc, take-suc-set, take-all}
 use Rattle.bits.specs.declared.psr.Psr.{Psr}
 use Rattle.bits.specs.Psr.{psrOf}
+use Rattle.machine.specs.Place.{before}
 use Rattle.layout.specs.State.{decode}
 
 -- one word more, over the first
@@ -26,21 +27,27 @@ one-further l a from n i h k e =
 pub all-copied : (n : ℕ) (l from : List ℕ) (i : ℕ) → length l ≡ n → i ≡ n → take i l ≡ take i from → l ≡ take n from
 all-copied n l from i h z e = sym (take-all n l (omega arith)) ∙ (rw z at e)
 
--- the last four words of a state
-pub last-four : (l s r : List ℕ) (a b c d : ℕ) → length l ≡ 52 → take 48 l ≡ s ++ r → set (set (set (set l 48 a) 49 b) 50 c) 51 d ≡ s ++ (r ++ (a ∷ b ∷ c ∷ d ∷ []))
-last-four l s r a b c d h e =
+-- the last five words of a state
+pub last-five : (l s r : List ℕ) (a b c d e : ℕ) → length l ≡ before → take 48 l ≡ s ++ r
+    → set (set (set (set (set l 48 a) 49 b) 50 c) 51 d) 52 e ≡ s ++ (r ++ (a ∷ b ∷ c ∷ d ∷ e ∷ []))
+last-five l s r a b c d e h k =
     let l₁ = set l 48 a in
     let l₂ = set l₁ 49 b in
     let l₃ = set l₂ 50 c in
-    let n₁ : length l₁ ≡ 52 = simp length-set h in
-    let n₂ : length l₂ ≡ 52 = simp length-set h in
-    let n₃ : length l₃ ≡ 52 = simp length-set h in
-    let n₄ : length (set l₃ 51 d) ≡ 52 = simp length-set h in
-    let e₁ : take 49 l₁ ≡ (s ++ r) ++ (a ∷ []) = take-suc-set l 48 a (omega arith) ∙ ap (λ (x : List ℕ). x ++ (a ∷ [])) e in
+    let l₄ = set l₃ 51 d in
+    let n₁ : length l₁ ≡ before = simp length-set h in
+    let n₂ : length l₂ ≡ before = simp length-set h in
+    let n₃ : length l₃ ≡ before = simp length-set h in
+    let n₄ : length l₄ ≡ before = simp length-set h in
+    let n₅ : length (set l₄ 52 e) ≡ before = simp length-set h in
+    let e₁ : take 49 l₁ ≡ (s ++ r) ++ (a ∷ []) = take-suc-set l 48 a (omega arith) ∙ ap (λ (x : List ℕ). x ++ (a ∷ [])) k in
     let e₂ : take 50 l₂ ≡ ((s ++ r) ++ (a ∷ [])) ++ (b ∷ []) = take-suc-set l₁ 49 b (omega arith) ∙ ap (λ (x : List ℕ). x ++ (b ∷ [])) e₁ in
     let e₃ : take 51 l₃ ≡ (((s ++ r) ++ (a ∷ [])) ++ (b ∷ [])) ++ (c ∷ []) = take-suc-set l₂ 50 c (omega arith) ∙ ap (λ (x : List ℕ). x ++ (c ∷ [])) e₂ in
-    let e₄ : take 52 (set l₃ 51 d) ≡ ((((s ++ r) ++ (a ∷ [])) ++ (b ∷ [])) ++ (c ∷ [])) ++ (d ∷ []) = take-suc-set l₃ 51 d (omega arith) ∙ ap (λ (x : List ℕ). x ++ (d ∷ [])) e₃ in
-    sym (take-all 52 (set l₃ 51 d) (omega arith)) ∙ (e₄ ∙ simp append-assoc)
+    let e₄ : take 52 l₄ ≡ ((((s ++ r) ++ (a ∷ [])) ++ (b ∷ [])) ++ (c ∷ [])) ++ (d ∷ []) = take-suc-set l₃ 51 d (omega arith) ∙ ap (λ (x : List ℕ). x ++ (d ∷ [])) e₃ in
+    let e₅ : take 53 (set l₄ 52 e) ≡ (((((s ++ r) ++ (a ∷ [])) ++ (b ∷ [])) ++ (c ∷ [])) ++ (d ∷ [])) ++ (e ∷ []) =
+    take-suc-set l₄ 52 e (omega arith) ∙ ap (λ (x : List ℕ). x ++ (e ∷ [])) e₄
+    in
+    sym (take-all before (set l₄ 52 e) (omega arith)) ∙ (e₅ ∙ simp append-assoc)
 
 -- the first words of a state are the singles, once they are all copied
 pub first-copied : (n : ℕ) (l s : List ℕ) (i : ℕ) → length s ≡ n → i ≡ n → take i l ≡ take i s → take n l ≡ s ++ []
@@ -52,6 +59,6 @@ second-copied l s r i h z e = (rw z at e) ∙ ap (λ (x : List ℕ). s ++ x) (ta
 
 -- the machine of copied words
 pub decoded : (l s r : List ℕ) (x : Psr) (thumb : Bool) → s ≡ take 32 l → r ≡ take 16 (drop 32 l) → x ≡ psrOf (getD l 51 0 / 2 ^ 28)
-    → record { s = s; r = r; fpscr = getD l 48 0 + getD l 49 0; fpexc = getD l 50 0; cpsr = x; thumb = thumb } ≡ decode thumb l
+    → record { s = s; r = r; fpscr = getD l 48 0 + getD l 49 0 + getD l 52 0; fpexc = getD l 50 0; cpsr = x; thumb = thumb } ≡ decode thumb l
 unfolding decode
 decoded l s r x thumb p q e = rw (p, q, e)

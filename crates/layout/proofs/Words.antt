@@ -13,7 +13,7 @@ use Rattle.bits.specs.Psr.{nzcvOf, psrOf}
 use Rattle.bits.proofs.Flags.{psr-nzcv, nzcv-psr}
 use Rattle.machine.specs.declared.Machine.{Machine}
 use Rattle.machine.specs.Machine.{Sized}
-use Rattle.machine.specs.Place.{place, before, get, state}
+use Rattle.machine.specs.Place.{place, before, controlOf, exceptionsOf, get, state}
 use Rattle.layout.specs.State.{encode, decode, valid, Valid, inPosition}
 use Rattle.layout.proofs.Both.{fst, snd}
 
@@ -21,34 +21,41 @@ use Rattle.layout.proofs.Both.{fst, snd}
 pub valid-facts : (l : List ℕ) → valid l ≡ true → Valid l
 unfolding valid
 valid-facts l e =
-    let e₁ = snd (eqb (length l) 52) _ e in
+    let e₁ = snd (eqb (length l) before) _ e in
     let e₂ = snd (eqb (getD l 48 0 % 2 ^ 28) 0) _ e₁ in
+    let e₃ = snd (eqb (controlOf (getD l 49 0)) (getD l 49 0)) _ e₂ in
     record {
-      words = eqb-true _ _ (fst (eqb (length l) 52) _ e);
+      words = eqb-true _ _ (fst (eqb (length l) before) _ e);
       flags-only = eqb-true _ _ (fst (eqb (getD l 48 0 % 2 ^ 28) 0) _ e₁);
-      control-only = ltb-true _ _ (fst (ltb (getD l 49 0) (2 ^ 28)) _ e₂);
-      nzcv-only = eqb-true _ _ (snd (ltb (getD l 49 0) (2 ^ 28)) _ e₂);
+      control-only = eqb-true _ _ (fst (eqb (controlOf (getD l 49 0)) (getD l 49 0)) _ e₂);
+      nzcv-only = eqb-true _ _ (fst (eqb (getD l 51 0 % 2 ^ 28) 0) _ e₃);
+      exceptions-only = ltb-true _ _ (snd (eqb (getD l 51 0 % 2 ^ 28) 0) _ e₃);
     }
 
--- the last four words
-pub last-words : (l : List ℕ) → length l ≡ 52 → drop 48 l ≡ getD l 48 0 ∷ getD l 49 0 ∷ getD l 50 0 ∷ getD l 51 0 ∷ []
+-- the last five words
+pub last-words : (l : List ℕ) → length l ≡ before → drop 48 l ≡ getD l 48 0 ∷ getD l 49 0 ∷ getD l 50 0 ∷ getD l 51 0 ∷ getD l 52 0 ∷ []
 last-words l h =
     drop-cons l 48 0 (omega arith) ∙ ap (λ (x : List ℕ). getD l 48 0 ∷ x)
     (drop-cons l 49 0 (omega arith) ∙ ap (λ (x : List ℕ). getD l 49 0 ∷ x)
     (drop-cons l 50 0 (omega arith) ∙ ap (λ (x : List ℕ). getD l 50 0 ∷ x)
-    (drop-cons l 51 0 (omega arith) ∙ ap (λ (x : List ℕ). getD l 51 0 ∷ x) (drop-of-length-le l {i = 52} (omega arith)))))
+    (drop-cons l 51 0 (omega arith) ∙ ap (λ (x : List ℕ). getD l 51 0 ∷ x)
+    (drop-cons l 52 0 (omega arith) ∙ ap (λ (x : List ℕ). getD l 52 0 ∷ x) (drop-of-length-le l {i = before} (omega arith))))))
 
 -- a state's words in its three parts
-pub in-parts : (l : List ℕ) → length l ≡ 52 → take 32 l ++ (take 16 (drop 32 l) ++ (getD l 48 0 ∷ getD l 49 0 ∷ getD l 50 0 ∷ getD l 51 0 ∷ [])) ≡ l
+pub in-parts : (l : List ℕ) → length l ≡ before → take 32 l ++ (take 16 (drop 32 l) ++ (getD l 48 0 ∷ getD l 49 0 ∷ getD l 50 0 ∷ getD l 51 0 ∷ getD l 52 0 ∷ [])) ≡ l
 in-parts l h =
     ap (λ (x : List ℕ). take 32 l ++ (take 16 (drop 32 l) ++ x)) (sym (last-words l h) ∙ sym (drop-drop 16 32 l))
     ∙ (ap (λ (x : List ℕ). take 32 l ++ x) (take-append-drop 16 (drop 32 l)) ∙ take-append-drop 32 l)
 
-module _ (a b : ℕ) (h : a % 2 ^ 28 ≡ 0) (k : b < 2 ^ 28) where
-  high-part : (a + b) / 2 ^ 28 * 2 ^ 28 ≡ a
+-- FPSCR of its three words
+module _ (a b c : ℕ) (h : a % 2 ^ 28 ≡ 0) (k : controlOf b ≡ b) (l : c < 2 ^ 5) where
+  high-part : (a + b + c) / 2 ^ 28 * 2 ^ 28 ≡ a
   high-part = omega arith
 
-  low-part : (a + b) % 2 ^ 28 ≡ b
+  mid-part : controlOf (a + b + c) ≡ b
+  mid-part = omega arith
+
+  low-part : exceptionsOf (a + b + c) ≡ c
   low-part = omega arith
 
 flags-part : (x : ℕ) → x < 2 ^ 32 → x % 2 ^ 28 ≡ 0 → nzcvOf (psrOf (x / 2 ^ 28)) * 2 ^ 28 ≡ x
@@ -58,12 +65,12 @@ flags-part x h z = rw (nzcv-psr (x / 2 ^ 28) (omega arith)) (omega arith)
 pub encode-decode : (thumb : Bool) (l : List ℕ) → Valid l → getD l 51 0 < 2 ^ 32 → encode (decode thumb l) ≡ l
 unfolding encode decode
 encode-decode thumb l s h =
-    rw (high-part (getD l 48 0) (getD l 49 0) (s .flags-only) (s .control-only), low-part (getD l 48 0) (getD l 49 0) (s .flags-only) (s .control-only), flags-part (getD l 51 0) h (s .nzcv-only))
+    rw (high-part (getD l 48 0) (getD l 49 0) (getD l 52 0) (s .flags-only) (s .control-only) (s .exceptions-only), mid-part (getD l 48 0) (getD l 49 0) (getD l 52 0) (s .flags-only) (s .control-only) (s .exceptions-only), low-part (getD l 48 0) (getD l 49 0) (getD l 52 0) (s .flags-only) (s .control-only) (s .exceptions-only), flags-part (getD l 51 0) h (s .nzcv-only))
     (in-parts l (s .words))
 
 -- the words after the singles and the core registers
 abbrev tail : Machine → List ℕ
-tail m = m .fpscr / 2 ^ 28 * 2 ^ 28 ∷ m .fpscr % 2 ^ 28 ∷ m .fpexc ∷ nzcvOf (m .cpsr) * 2 ^ 28 ∷ []
+tail m = m .fpscr / 2 ^ 28 * 2 ^ 28 ∷ controlOf (m .fpscr) ∷ m .fpexc ∷ nzcvOf (m .cpsr) * 2 ^ 28 ∷ exceptionsOf (m .fpscr) ∷ []
 
 module _ (m : Machine) (z : Sized m) where
   singles : take 32 (encode m) ≡ m .s
@@ -81,18 +88,18 @@ module _ (m : Machine) (z : Sized m) where
       let e : 48 + i ≡ length (m .s) + (length (m .r) + i) = omega (arith, z .s, z .r) in
       rw e (getD-append-add (m .s) (m .r ++ tail m) (length (m .r) + i) 0 ∙ getD-append-add (m .r) (tail m) i 0)
 
-  whole : m .fpscr / 2 ^ 28 * 2 ^ 28 + m .fpscr % 2 ^ 28 ≡ m .fpscr
+  whole : m .fpscr / 2 ^ 28 * 2 ^ 28 + controlOf (m .fpscr) + exceptionsOf (m .fpscr) ≡ m .fpscr
   whole = omega arith
 
   -- a machine is the machine of its words
   pub decode-encode : decode (m .thumb) (encode m) ≡ m
   unfolding decode
-  decode-encode = rw (singles, cores, late 0, late 1, late 2, late 3, whole, back, psr-nzcv (m .cpsr))
+  decode-encode = rw (singles, cores, late 0, late 1, late 2, late 3, late 4, whole, back, psr-nzcv (m .cpsr))
     where
       back : nzcvOf (m .cpsr) * 2 ^ 28 / 2 ^ 28 ≡ nzcvOf (m .cpsr)
       back = omega arith
 
-  as-long : length (encode m) ≡ 52
+  as-long : length (encode m) ≡ before
   unfolding encode
   as-long = simp length-append (omega (arith, z .s, z .r))
 
@@ -103,6 +110,7 @@ module _ (m : Machine) (z : Sized m) where
         flags-only = rw (late 0) (omega arith);
         control-only = rw (late 1) (omega arith);
         nzcv-only = rw (late 3) (omega arith);
+        exceptions-only = rw (late 4) (omega arith);
       }
 
   -- the word of each place has the place's bits
@@ -136,13 +144,18 @@ module _ (m : Machine) (z : Sized m) where
     unfolding place
     right-nzcv = late 3
 
+    right-exceptions : Right 52
+    unfolding place
+    right-exceptions = late 4
+
     pub place-word : (n : ℕ) → n < before → Right n
-    place-word n h = by (decLt n 32) (decLt n 48) (decLt n 49) (decLt n 50) (decLt n 51)
+    place-word n h = by (decLt n 32) (decLt n 48) (decLt n 49) (decLt n 50) (decLt n 51) (decLt n 52)
       where
-        by : Dec (n < 32) → Dec (n < 48) → Dec (n < 49) → Dec (n < 50) → Dec (n < 51) → Right n
-        by (yes a) b c d e = right-single n a
-        by (no a) (yes b) c d e = right-core n (omega arith) b
-        by (no a) (no b) (yes c) d e = subst Right (let q : 48 ≡ n = omega arith in q) right-flags
-        by (no a) (no b) (no c) (yes d) e = subst Right (let q : 49 ≡ n = omega arith in q) right-control
-        by (no a) (no b) (no c) (no d) (yes e) = subst Right (let q : 50 ≡ n = omega arith in q) right-exc
-        by (no a) (no b) (no c) (no d) (no e) = subst Right (let q : 51 ≡ n = omega arith in q) right-nzcv
+        by : Dec (n < 32) → Dec (n < 48) → Dec (n < 49) → Dec (n < 50) → Dec (n < 51) → Dec (n < 52) → Right n
+        by (yes a) b c d e f = right-single n a
+        by (no a) (yes b) c d e f = right-core n (omega arith) b
+        by (no a) (no b) (yes c) d e f = subst Right (let q : 48 ≡ n = omega arith in q) right-flags
+        by (no a) (no b) (no c) (yes d) e f = subst Right (let q : 49 ≡ n = omega arith in q) right-control
+        by (no a) (no b) (no c) (no d) (yes e) f = subst Right (let q : 50 ≡ n = omega arith in q) right-exc
+        by (no a) (no b) (no c) (no d) (no e) (yes f) = subst Right (let q : 51 ≡ n = omega arith in q) right-nzcv
+        by (no a) (no b) (no c) (no d) (no e) (no f) = subst Right (let q : 52 ≡ n = omega arith in q) right-exceptions

@@ -1,2 +1,2 @@
-// The layout of a machine in 52 words, places 0 to 51 in order.
+// The layout of a machine in 53 words, places 0 to 52 in order.
 pub mod state;

@@ -1,6 +1,7 @@
 // A machine in the words of a state.
 ghost use mathlib.Core.Path.{_≡_};
 ghost use lib.ListN.{length};
+ghost use Rattle.machine.specs.Place.{before};
 ghost use Rattle.layout.specs.State.{encode, decode, valid, Valid};
 use bits::psr::Psr;
 use machine::Machine;
@@ -22,7 +23,7 @@ pub fn decode(state: &[u32], thumb: bool) -> Machine
     Machine {
         s,
         r,
-        fpscr: state[place::FLAGS] + state[place::CONTROL],
+        fpscr: state[place::FLAGS] + state[place::CONTROL] + state[place::EXCEPTIONS],
         fpexc: state[place::EXC],
         cpsr: Psr::from_bits(state[place::NZCV]),
         thumb,
@@ -31,7 +32,7 @@ pub fn decode(state: &[u32], thumb: bool) -> Machine
 
 // A machine's words.
 pub fn encode(machine: Machine, state: &mut [u32])
-    requires { ⌜ length (now state) ≡ 52 ⌝ }
+    requires { ⌜ length (now state) ≡ before ⌝ }
     ensures { λ _. ⌜ now (state .exit) ≡ encode machine ⌝ }
 {
     let s = machine.s;
@@ -45,9 +46,10 @@ pub fn encode(machine: Machine, state: &mut [u32])
     let fpscr = machine.fpscr;
     let cpsr = machine.cpsr;
     state[place::FLAGS] = fpscr / 0x1000_0000 * 0x1000_0000;
-    state[place::CONTROL] = fpscr % 0x1000_0000;
+    state[place::CONTROL] = place::control_of(fpscr);
     state[place::EXC] = machine.fpexc;
     state[place::NZCV] = Psr::to_bits(cpsr);
+    state[place::EXCEPTIONS] = fpscr % 32;
 }
 
 // Whether words are a machine's.
@@ -60,8 +62,12 @@ pub fn is_valid(state: &[u32]) -> bool
     if state[place::FLAGS] % 0x1000_0000 != 0 {
         return false;
     }
-    if 0x1000_0000 <= state[place::CONTROL] {
+    let control = state[place::CONTROL];
+    if place::control_of(control) != control {
         return false;
     }
-    state[place::NZCV] % 0x1000_0000 == 0
+    if state[place::NZCV] % 0x1000_0000 != 0 {
+        return false;
+    }
+    state[place::EXCEPTIONS] < 32
 }

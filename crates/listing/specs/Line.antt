@@ -4,7 +4,7 @@ use mathlib.Core.Bool.{Bool, true, false, cond}
 use mathlib.Core.List.{List, [], _∷_}
 use lib.Dec.{eqb, ltb}
 use lib.ListN.{length, take, drop}
-use Rattle.machine.specs.Place.{control, number, place}
+use Rattle.machine.specs.Place.{control, exceptions, number, place}
 use Rattle.numerals.specs.declared.number.Number.{Number}
 use Rattle.numerals.specs.declared.number.Number.the-variants.{Value, Wrong}
 use Rattle.listing.specs.declared.line.Item.{Item}
@@ -13,7 +13,7 @@ use Rattle.listing.specs.declared.line.Expected.the-variants as expected
 use Rattle.listing.specs.declared.line.Next.{Next}
 use Rattle.listing.specs.declared.line.Next.the-variants as next
 use Rattle.numerals.specs.Number.{hexOf, decimalOf, valueOf}
-use Rattle.place_names.specs.Place.{placeOf, same, width}
+use Rattle.place_names.specs.Place.{placeOf, same, ownBits}
 use Rattle.tokens.specs.Token.{leadingOf}
 
 -- where a line's first word starts and ends, the word, and what follows it
@@ -42,12 +42,18 @@ given Wrong f z = z
 unfoldable pub endedOf : List ℕ → Item → Item
 endedOf l i = cond (blank l) i (Mistake expected.End)
 
+-- what is told of a value with a bit outside its place's own
+unfoldable pub misfit : ℕ → Item
+misfit p =
+    cond (eqb p (number control)) (Mistake expected.Control)
+    (cond (eqb p (number exceptions)) (Mistake expected.Exceptions) (Mistake expected.Flags))
+
 -- PLACE VALUE, after set
+abbrev pub setValue : ℕ → List ℕ → ℕ → Item
+setValue p l v = cond (eqb (ownBits (place p) v) v) (endedOf l (Set p v)) (misfit p)
+
 unfoldable pub setTo : ℕ → List ℕ → Item
-setTo p l =
-    given (valueOf (firstOf l))
-    (λ v. cond (ltb v (2 ^ width (place p))) (endedOf (restOf l) (Set p v)) (cond (eqb p (number control)) (Mistake expected.Control) (Mistake expected.Flags)))
-    (Mistake expected.Value)
+setTo p l = given (valueOf (firstOf l)) (setValue p (restOf l)) (Mistake expected.Value)
 
 unfoldable pub setOf : List ℕ → Item
 setOf l = given (placeOf (firstOf l)) (λ p. setTo p (restOf l)) (Mistake expected.Place)

@@ -8,6 +8,7 @@ use numerals::number::decimal_of;
 use numerals::number::hex_of;
 use numerals::number::value_of;
 use place_names::place::CONTROL;
+use place_names::place::EXCEPTIONS;
 use place_names::place::fits;
 use place_names::place::place_of;
 use tokens::token::first;
@@ -19,6 +20,7 @@ pub enum Expected {
     Value,
     Flags,
     Control,
+    Exceptions,
     Base,
     Count,
     End,
@@ -109,6 +111,9 @@ fn set_to(place: u32, rest: &[u8]) -> Item
     }
     if place == CONTROL {
         return Item::Mistake(Expected::Control);
+    }
+    if place == EXCEPTIONS {
+        return Item::Mistake(Expected::Exceptions);
     }
     Item::Mistake(Expected::Flags)
 }

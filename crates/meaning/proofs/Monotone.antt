@@ -7,7 +7,7 @@ use mathlib.Core.Bool.{Bool, true, false, cond, _&&_, false≢true}
 use lib.ListN.{length, getD, set, length-set, take}
 use lib.Dec.{eqb}
 use Rattle.bits.specs.Psr.{oneOf}
-use Rattle.machine.specs.Place.{Place, single, core, word, flags, control, exc, nzcv, State, get, number}
+use Rattle.machine.specs.Place.{Place, single, core, word, flags, control, exc, nzcv, exceptions, State, get, number}
 use Rattle.meaning.specs.Map.{Map, known, mark}
 use Rattle.meaning.specs.Step.{Step, Act, step, act, allKnown, markAll, stepMarks, afterMarks, actMarks}
 use Rattle.meaning.specs.Stop.{hangs}
@@ -43,6 +43,7 @@ more-mark μ ν a (single i) t u e flags h = a .more flags h
 more-mark μ ν a (single i) t u e control h = a .more control h
 more-mark μ ν a (single i) t u e exc h = a .more exc h
 more-mark μ ν a (single i) t u e nzcv h = a .more nzcv h
+more-mark μ ν a (single i) t u e exceptions h = a .more exceptions h
 more-mark μ ν a (core i) t u e (single j) h = a .more (single j) h
 more-mark μ ν a (core i) t u e (core j) h = cell (λ b. b) false (μ .marks .r) (ν .marks .r) (a .size .r) i j t u e (a .more (core j)) h
 more-mark μ ν a (core i) t u e (word j) h = a .more (word j) h
@@ -50,6 +51,7 @@ more-mark μ ν a (core i) t u e flags h = a .more flags h
 more-mark μ ν a (core i) t u e control h = a .more control h
 more-mark μ ν a (core i) t u e exc h = a .more exc h
 more-mark μ ν a (core i) t u e nzcv h = a .more nzcv h
+more-mark μ ν a (core i) t u e exceptions h = a .more exceptions h
 more-mark μ ν a (word i) t u e (single j) h = a .more (single j) h
 more-mark μ ν a (word i) t u e (core j) h = a .more (core j) h
 more-mark μ ν a (word i) t u e (word j) h = cell (λ x. eqb x 1) 1 (μ .words) (ν .words) (a .size .words) i j (oneOf t) (oneOf u) (one-of t u e) (a .more (word j)) h
@@ -57,6 +59,7 @@ more-mark μ ν a (word i) t u e flags h = a .more flags h
 more-mark μ ν a (word i) t u e control h = a .more control h
 more-mark μ ν a (word i) t u e exc h = a .more exc h
 more-mark μ ν a (word i) t u e nzcv h = a .more nzcv h
+more-mark μ ν a (word i) t u e exceptions h = a .more exceptions h
 more-mark μ ν a flags t u e (single j) h = a .more (single j) h
 more-mark μ ν a flags t u e (core j) h = a .more (core j) h
 more-mark μ ν a flags t u e (word j) h = a .more (word j) h
@@ -64,6 +67,7 @@ more-mark μ ν a flags t u e flags h = e h
 more-mark μ ν a flags t u e control h = a .more control h
 more-mark μ ν a flags t u e exc h = a .more exc h
 more-mark μ ν a flags t u e nzcv h = a .more nzcv h
+more-mark μ ν a flags t u e exceptions h = a .more exceptions h
 more-mark μ ν a control t u e (single j) h = a .more (single j) h
 more-mark μ ν a control t u e (core j) h = a .more (core j) h
 more-mark μ ν a control t u e (word j) h = a .more (word j) h
@@ -71,6 +75,7 @@ more-mark μ ν a control t u e flags h = a .more flags h
 more-mark μ ν a control t u e control h = e h
 more-mark μ ν a control t u e exc h = a .more exc h
 more-mark μ ν a control t u e nzcv h = a .more nzcv h
+more-mark μ ν a control t u e exceptions h = a .more exceptions h
 more-mark μ ν a exc t u e (single j) h = a .more (single j) h
 more-mark μ ν a exc t u e (core j) h = a .more (core j) h
 more-mark μ ν a exc t u e (word j) h = a .more (word j) h
@@ -78,6 +83,7 @@ more-mark μ ν a exc t u e flags h = a .more flags h
 more-mark μ ν a exc t u e control h = a .more control h
 more-mark μ ν a exc t u e exc h = e h
 more-mark μ ν a exc t u e nzcv h = a .more nzcv h
+more-mark μ ν a exc t u e exceptions h = a .more exceptions h
 more-mark μ ν a nzcv t u e (single j) h = a .more (single j) h
 more-mark μ ν a nzcv t u e (core j) h = a .more (core j) h
 more-mark μ ν a nzcv t u e (word j) h = a .more (word j) h
@@ -85,6 +91,15 @@ more-mark μ ν a nzcv t u e flags h = a .more flags h
 more-mark μ ν a nzcv t u e control h = a .more control h
 more-mark μ ν a nzcv t u e exc h = a .more exc h
 more-mark μ ν a nzcv t u e nzcv h = e h
+more-mark μ ν a nzcv t u e exceptions h = a .more exceptions h
+more-mark μ ν a exceptions t u e (single j) h = a .more (single j) h
+more-mark μ ν a exceptions t u e (core j) h = a .more (core j) h
+more-mark μ ν a exceptions t u e (word j) h = a .more (word j) h
+more-mark μ ν a exceptions t u e flags h = a .more flags h
+more-mark μ ν a exceptions t u e control h = a .more control h
+more-mark μ ν a exceptions t u e exc h = a .more exc h
+more-mark μ ν a exceptions t u e nzcv h = a .more nzcv h
+more-mark μ ν a exceptions t u e exceptions h = e h
 
 size-mark : (μ ν : Map) → SameSize μ ν → (p : Place) (t u : Bool) → SameSize (mark μ p t) (mark ν p u)
 size-mark μ ν z (single i) t u = record { s = simp length-set (z .s); r = z .r; words = z .words }
@@ -94,6 +109,7 @@ size-mark μ ν z flags t u = record { s = z .s; r = z .r; words = z .words }
 size-mark μ ν z control t u = record { s = z .s; r = z .r; words = z .words }
 size-mark μ ν z exc t u = record { s = z .s; r = z .r; words = z .words }
 size-mark μ ν z nzcv t u = record { s = z .s; r = z .r; words = z .words }
+size-mark μ ν z exceptions t u = record { s = z .s; r = z .r; words = z .words }
 
 above-mark : (μ ν : Map) → Above μ ν → (p : Place) (t u : Bool) → (t ≡ true → u ≡ true) → Above (mark μ p t) (mark ν p u)
 above-mark μ ν a p t u e = record { size = size-mark μ ν (a .size) p t u; more = more-mark μ ν a p t u e }

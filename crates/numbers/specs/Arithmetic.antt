@@ -1,9 +1,7 @@
 -- The arithmetic of one step. Assumes nothing.
 use Prim.Native.Nat.{ℕ}
 use mathlib.Core.Bool.{Bool, true, false}
-use mathlib.Core.Path.{_≡_}
-use lib.Ieee.{Float, Format, add, sub, mul, div, neg, isNan, ofBits, toBits}
-use Rattle.floats.specs.Flush.{subnormal}
+use lib.Ieee.{Float, Format, add, sub, mul, div, neg, ofBits, toBits}
 use Rattle.numbers.specs.declared.arithmetic.Arithmetic.{Arithmetic}
 use Rattle.numbers.specs.declared.arithmetic.Arithmetic.the-variants.{MultiplyAccumulate, MultiplySubtract, NegateMultiplySubtract, NegateMultiplyAccumulate, Multiply, NegateMultiply, Add, Subtract, Divide}
 
@@ -34,9 +32,3 @@ accumulates Divide = false
 -- the result's word before flushing, by which every NaN is the default one
 unfoldable pub applied : Format → Arithmetic → ℕ → ℕ → ℕ → ℕ
 applied f kind n m d = toBits f (apply f kind (ofBits f n) (ofBits f m) (ofBits f d))
-
--- a native result that is stored as it is: no NaN, and no subnormal, which FZ might flush
-pub record IsQuick (f : Format) (kind : Arithmetic) (n m d bits : ℕ) : Type 0 where
-  pub word : bits ≡ applied f kind n m d
-  pub number : isNan (apply f kind (ofBits f n) (ofBits f m) (ofBits f d)) ≡ false
-  pub normal : subnormal f bits ≡ false

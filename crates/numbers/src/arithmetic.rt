@@ -1,10 +1,8 @@
 // The arithmetic of one step. Each operator is a float's own and rounds once in its width.
 ghost use mathlib.Core.Path.{_≡_};
-ghost use lib.Ieee.{binary32, binary64, ofBits};
 ghost use mathlib.Core.Bool.{true, false};
-ghost use Rattle.numbers.specs.Arithmetic.{apply, accumulates, IsQuick};
-use floats::flush::is_subnormal32;
-use floats::flush::is_subnormal64;
+ghost use lib.Ieee.{binary32, binary64, ofBits};
+ghost use Rattle.numbers.specs.Arithmetic.{apply, applied, accumulates};
 use floats::word::bits32;
 use floats::word::bits64;
 use floats::word::float32;
@@ -86,13 +84,14 @@ fn apply32(kind: Arithmetic, x: Singles) -> f32
     let n = x.n;
     let m = x.m;
     let d = x.d;
+    let product = n * m;
     match kind {
-        Arithmetic::MultiplyAccumulate => d + n * m, // FMACS
-        Arithmetic::MultiplySubtract => d - n * m, // FNMACS
-        Arithmetic::NegateMultiplySubtract => -d + n * m, // FMSCS
-        Arithmetic::NegateMultiplyAccumulate => -d - n * m, // FNMSCS
-        Arithmetic::Multiply => n * m, // FMULS
-        Arithmetic::NegateMultiply => -(n * m), // FNMULS
+        Arithmetic::MultiplyAccumulate => d + product, // FMACS
+        Arithmetic::MultiplySubtract => d - product, // FNMACS
+        Arithmetic::NegateMultiplySubtract => -d + product, // FMSCS
+        Arithmetic::NegateMultiplyAccumulate => -d - product, // FNMSCS
+        Arithmetic::Multiply => product, // FMULS
+        Arithmetic::NegateMultiply => -product, // FNMULS
         Arithmetic::Add => n + m, // FADDS
         Arithmetic::Subtract => n - m, // FSUBS
         Arithmetic::Divide => n / m, // FDIVS
@@ -105,20 +104,21 @@ fn apply64(kind: Arithmetic, x: Doubles) -> f64
     let n = x.n;
     let m = x.m;
     let d = x.d;
+    let product = n * m;
     match kind {
-        Arithmetic::MultiplyAccumulate => d + n * m, // FMACD
-        Arithmetic::MultiplySubtract => d - n * m, // FNMACD
-        Arithmetic::NegateMultiplySubtract => -d + n * m, // FMSCD
-        Arithmetic::NegateMultiplyAccumulate => -d - n * m, // FNMSCD
-        Arithmetic::Multiply => n * m, // FMULD
-        Arithmetic::NegateMultiply => -(n * m), // FNMULD
+        Arithmetic::MultiplyAccumulate => d + product, // FMACD
+        Arithmetic::MultiplySubtract => d - product, // FNMACD
+        Arithmetic::NegateMultiplySubtract => -d + product, // FMSCD
+        Arithmetic::NegateMultiplyAccumulate => -d - product, // FNMSCD
+        Arithmetic::Multiply => product, // FMULD
+        Arithmetic::NegateMultiply => -product, // FNMULD
         Arithmetic::Add => n + m, // FADDD
         Arithmetic::Subtract => n - m, // FSUBD
         Arithmetic::Divide => n / m, // FDIVD
     }
 }
 
-// A native result that is stored as it is, whatever FZ says, and whether there is one. It is no NaN and no subnormal.
+// A native result's word, and whether there is one: of no NaN, and made of none.
 pub struct Quick32 {
     pub taken: bool,
     pub bits: u32,
@@ -145,7 +145,7 @@ pub fn none64() -> Quick64
 
 // No float is made of a NaN: of one in a d that the kind does not read neither.
 pub fn native32(kind: Arithmetic, n: u32, m: u32, d: u32) -> Quick32
-    ensures { λ r. ⌜ (r .taken ≡ true → IsQuick binary32 kind n m d (r .bits)) ⌝ }
+    ensures { λ r. ⌜ (r .taken ≡ true → r .bits ≡ applied binary32 kind n m d) ⌝ }
 {
     if is_nan32(n) {
         return none32();
@@ -161,14 +161,11 @@ pub fn native32(kind: Arithmetic, n: u32, m: u32, d: u32) -> Quick32
         return none32();
     }
     let bits = bits32(x);
-    if is_subnormal32(bits) {
-        return none32();
-    }
     Quick32 { taken: true, bits }
 }
 
 pub fn native64(kind: Arithmetic, n: u64, m: u64, d: u64) -> Quick64
-    ensures { λ r. ⌜ (r .taken ≡ true → IsQuick binary64 kind n m d (r .bits)) ⌝ }
+    ensures { λ r. ⌜ (r .taken ≡ true → r .bits ≡ applied binary64 kind n m d) ⌝ }
 {
     if is_nan64(n) {
         return none64();
@@ -184,8 +181,5 @@ pub fn native64(kind: Arithmetic, n: u64, m: u64, d: u64) -> Quick64
         return none64();
     }
     let bits = bits64(y);
-    if is_subnormal64(bits) {
-        return none64();
-    }
     Quick64 { taken: true, bits }
 }

@@ -37,7 +37,7 @@ AgreeBefore μ a b = (n : ℕ) → n < before → known μ (place n) ≡ true �
 
 -- ---- from buffers to places
 
-pub sized : (t : Bool) (l : List ℕ) → length l ≡ 52 → Sized (decode t l)
+pub sized : (t : Bool) (l : List ℕ) → length l ≡ before → Sized (decode t l)
 unfolding decode
 sized t l h = record { s = length-take-le 32 l (omega arith); r = length-take-le 16 (drop 32 l) (rw (length-drop 32 l, h) (omega arith)) }
 

@@ -5,7 +5,7 @@ use mathlib.Core.Bool.{Bool, true, false, cond}
 use mathlib.Core.List.{List, [], _∷_}
 use lib.ListN.{length-set}
 use Rattle.machine.specs.Machine.{Sized}
-use Rattle.machine.specs.Place.{Place, single, core, word, flags, control, exc, nzcv, State, get, put, number}
+use Rattle.machine.specs.Place.{Place, single, core, word, flags, control, exc, nzcv, exceptions, State, get, put, number}
 use Rattle.meaning.specs.Map.{Map, known, mark}
 use Rattle.meaning.specs.Step.{Step, Act, stored, putAll, step, after, act, allKnown, markAll, stepMarks, afterMarks, actMarks}
 use Rattle.meaning.specs.Stop.{hangs}
@@ -23,6 +23,7 @@ put-sized st flags v z = record { s = z .s; r = z .r }
 put-sized st control v z = record { s = z .s; r = z .r }
 put-sized st exc v z = record { s = z .s; r = z .r }
 put-sized st nzcv v z = record { s = z .s; r = z .r }
+put-sized st exceptions v z = record { s = z .s; r = z .r }
 
 writes-sized : (a : State) (x : Step) (st : State) → Sized (st .machine) → Sized (putAll a x st .machine)
 writes-sized a [] st z = z
@@ -46,6 +47,7 @@ mark-mapped μ flags b z = record { s = z .s; r = z .r }
 mark-mapped μ control b z = record { s = z .s; r = z .r }
 mark-mapped μ exc b z = record { s = z .s; r = z .r }
 mark-mapped μ nzcv b z = record { s = z .s; r = z .r }
+mark-mapped μ exceptions b z = record { s = z .s; r = z .r }
 
 writes-mapped : (ν : Map) (x : Step) (μ : Map) → Mapped μ → Mapped (markAll ν x μ)
 writes-mapped ν [] μ z = z

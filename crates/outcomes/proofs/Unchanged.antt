@@ -7,7 +7,7 @@ use mathlib.Core.List.{List, []}
 use lib.Dec.{eqb}
 use lib.ListN.{length, getD}
 use Rattle.machine.specs.Machine.{newMachine}
-use Rattle.machine.specs.Place.{State}
+use Rattle.machine.specs.Place.{State, before}
 use Rattle.meaning.specs.Map.{Map}
 use Rattle.meaning.specs.Stop.{report, refused}
 use Rattle.meaning.specs.Tree.{Tree}
@@ -101,7 +101,7 @@ module _ (l w : List ℕ) (thumb : ℕ) (a : List ℕ) (small : (n : ℕ) → ge
       by false e p = (refl, refl, refl, refl)
 
 unchanged-new : (l : List ℕ) → Unchanged l [] (renewed l)
-unchanged-new l = by (eqb (length l) 52)
+unchanged-new l = by (eqb (length l) before)
   where
     by : (b : Bool) → Unchanged l [] (cond b (outcome 0 (encode newMachine) [] []) (outcome invalidArgument l [] []))
     by true p = absurd (omega (arith, p))

@@ -6,7 +6,7 @@ use lib.Dec.{eqb, ltb}
 use lib.ListN.{length}
 use Rattle.bits.specs.Psr.{oneOf, psrOf, holds}
 use Rattle.machine.specs.Machine.{newMachine}
-use Rattle.machine.specs.Place.{State, state}
+use Rattle.machine.specs.Place.{State, state, before}
 use Rattle.vfp.specs.Call.{Reply}
 use Rattle.run.specs.Run as Run
 use Rattle.layout.specs.State.{encode, decode, valid}
@@ -52,9 +52,9 @@ reportedRun y = reported (y .count) (record { report = y .report; leaves = y .le
 abbrev pub ran : (State → Run.Reply) → List ℕ → List ℕ → ℕ → List ℕ → Outcome
 ran y l w thumb a = cond (validCall l thumb (length a)) (reportedRun (y (decodedState l w thumb))) (outcome invalidArgument l w a)
 
--- what is left of a state that is to become new: its result is 0, or 255 where it has not 52 words
+-- what is left of a state that is to become new: its result is 0, or 255 where it has not a state's words
 abbrev pub renewed : List ℕ → Outcome
-renewed l = cond (eqb (length l) 52) (outcome 0 (encode newMachine) [] []) (outcome invalidArgument l [] [])
+renewed l = cond (eqb (length l) before) (outcome 0 (encode newMachine) [] []) (outcome invalidArgument l [] [])
 
 -- whether a condition holds on flags in bits 31:28, as a number; other bits there have to be 0
 abbrev pub checked : ℕ → ℕ → ℕ

@@ -8,6 +8,7 @@ use lib.Pow.{pow-pos, shl-exact}
 use lib.Dec.{eqb, lit<}
 use lib.Bits.{bitAnd, bitOr, and-step, or-step, and-le-l, and-mask, or-zero-r, or-block}
 use Rattle.bits.specs.Psr.{oneOf}
+use Rattle.machine.specs.Place.{before}
 use Rattle.machine.specs.Registers.{lowIndex}
 use Rattle.place_marks.specs.Word.{withBit}
 use Rattle.place_marks.proofs.Word.{half, odd, one-lt, bit-value}
@@ -68,7 +69,7 @@ replaced-two v m (suc p) h =
     ∙ rw (half (withBit (m / 2) p b) (m % 2) (omega arith), odd (withBit (m / 2) p b) (m % 2) (omega arith))
 
 -- as the code has it: nothing is shifted out of 64 bits
-pub set-one : (m p : ℕ) (b : Bool) → p < 52 → bitOr (m - bitAnd m ((1 * 2 ^ p) % 2 ^ 64)) ((oneOf b * 2 ^ p) % 2 ^ 64) ≡ withBit m p b
+pub set-one : (m p : ℕ) (b : Bool) → p < before → bitOr (m - bitAnd m ((1 * 2 ^ p) % 2 ^ 64)) ((oneOf b * 2 ^ p) % 2 ^ 64) ≡ withBit m p b
 set-one m p b h = rw (shl-exact {a = 1} 1 p 64 (lit< tt) (omega arith), shl-exact 1 p 64 (one-lt b) (omega arith)) (replaced-one m p b)
 
 pub set-two : (v m n : ℕ) → v < 4

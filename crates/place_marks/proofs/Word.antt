@@ -14,10 +14,10 @@ use lib.ListN.{length, getD, set, take, drop, length-append}
 use lib.Seq.{take-at, drop-at, getD-append-add}
 use Rattle.bits.specs.Field.{bitOf}
 use Rattle.bits.specs.Psr.{oneOf}
-use Rattle.machine.specs.Place.{place, before, number, single, core, word, flags, control, exc, nzcv}
+use Rattle.machine.specs.Place.{place, before, number, single, core, word, flags, control, exc, nzcv, exceptions}
 use Rattle.meaning.specs.Map.{Marks, known, mark, mapOf}
 use Rattle.place_marks.specs.Word.{bitsFrom, marksOf, mapIn, numberOf, wordOf, withBit}
-use Rattle.place_marks.proofs.Places.{place-single, place-core, place-flags, place-control, place-exc, place-nzcv, by-number}
+use Rattle.place_marks.proofs.Places.{place-single, place-core, place-flags, place-control, place-exc, place-nzcv, place-exceptions, by-number}
 
 -- ---- bits of a number with another bit
 
@@ -105,9 +105,10 @@ known-in m w =
     (rw place-control)
     (rw place-exc)
     (rw place-nzcv)
+    (rw place-exceptions)
 
 module _ (m : ℕ) (w : List ℕ) (b : Bool) where
-  -- the bit of a place among the four that are no array
+  -- the bit of a place among the five that are no array
   alone : (p : ℕ) → 48 ≤ p → (bitsFrom 32 0 (withBit m p b) ≡ bitsFrom 32 0 m) × (bitsFrom 16 32 (withBit m p b) ≡ bitsFrom 16 32 m)
   alone p h = (bits-other 32 0 m p b (λ j l e. omega (arith, e)), bits-other 16 32 m p b (λ j l e. omega (arith, e)))
 
@@ -119,12 +120,13 @@ module _ (m : ℕ) (w : List ℕ) (b : Bool) where
   unfolding marksOf mapIn
   mark-in =
       by-number (λ (n : ℕ). mapIn (withBit m n b) w ≡ mark (mapIn m w) (place n) b)
-      (λ n h. let z : 0 + n ≡ n = omega arith in rw (place-single n h, rw z at (bits-set 32 0 m n b h), bits-other 16 32 m n b (λ j l e. omega (arith, e)), other n 48 (λ e. omega (arith, e)), other n 49 (λ e. omega (arith, e)), other n 50 (λ e. omega (arith, e)), other n 51 (λ e. omega (arith, e))))
-      (λ n h. rw (place-core n h, bits-other 32 0 m (32 + n) b (λ j l e. omega (arith, e)), bits-set 16 32 m n b h, other (32 + n) 48 (λ e. omega (arith, e)), other (32 + n) 49 (λ e. omega (arith, e)), other (32 + n) 50 (λ e. omega (arith, e)), other (32 + n) 51 (λ e. omega (arith, e))))
-      (rw (place-flags, alone 48 (omega arith) .0, alone 48 (omega arith) .1, bit-same m 48 b, other 48 49 (λ e. omega (arith, e)), other 48 50 (λ e. omega (arith, e)), other 48 51 (λ e. omega (arith, e))))
-      (rw (place-control, alone 49 (omega arith) .0, alone 49 (omega arith) .1, bit-same m 49 b, other 49 48 (λ e. omega (arith, e)), other 49 50 (λ e. omega (arith, e)), other 49 51 (λ e. omega (arith, e))))
-      (rw (place-exc, alone 50 (omega arith) .0, alone 50 (omega arith) .1, bit-same m 50 b, other 50 48 (λ e. omega (arith, e)), other 50 49 (λ e. omega (arith, e)), other 50 51 (λ e. omega (arith, e))))
-      (rw (place-nzcv, alone 51 (omega arith) .0, alone 51 (omega arith) .1, bit-same m 51 b, other 51 48 (λ e. omega (arith, e)), other 51 49 (λ e. omega (arith, e)), other 51 50 (λ e. omega (arith, e))))
+      (λ n h. let z : 0 + n ≡ n = omega arith in rw (place-single n h, rw z at (bits-set 32 0 m n b h), bits-other 16 32 m n b (λ j l e. omega (arith, e)), other n 48 (λ e. omega (arith, e)), other n 49 (λ e. omega (arith, e)), other n 50 (λ e. omega (arith, e)), other n 51 (λ e. omega (arith, e)), other n 52 (λ e. omega (arith, e))))
+      (λ n h. rw (place-core n h, bits-other 32 0 m (32 + n) b (λ j l e. omega (arith, e)), bits-set 16 32 m n b h, other (32 + n) 48 (λ e. omega (arith, e)), other (32 + n) 49 (λ e. omega (arith, e)), other (32 + n) 50 (λ e. omega (arith, e)), other (32 + n) 51 (λ e. omega (arith, e)), other (32 + n) 52 (λ e. omega (arith, e))))
+      (rw (place-flags, alone 48 (omega arith) .0, alone 48 (omega arith) .1, bit-same m 48 b, other 48 49 (λ e. omega (arith, e)), other 48 50 (λ e. omega (arith, e)), other 48 51 (λ e. omega (arith, e)), other 48 52 (λ e. omega (arith, e))))
+      (rw (place-control, alone 49 (omega arith) .0, alone 49 (omega arith) .1, bit-same m 49 b, other 49 48 (λ e. omega (arith, e)), other 49 50 (λ e. omega (arith, e)), other 49 51 (λ e. omega (arith, e)), other 49 52 (λ e. omega (arith, e))))
+      (rw (place-exc, alone 50 (omega arith) .0, alone 50 (omega arith) .1, bit-same m 50 b, other 50 48 (λ e. omega (arith, e)), other 50 49 (λ e. omega (arith, e)), other 50 51 (λ e. omega (arith, e)), other 50 52 (λ e. omega (arith, e))))
+      (rw (place-nzcv, alone 51 (omega arith) .0, alone 51 (omega arith) .1, bit-same m 51 b, other 51 48 (λ e. omega (arith, e)), other 51 49 (λ e. omega (arith, e)), other 51 50 (λ e. omega (arith, e)), other 51 52 (λ e. omega (arith, e))))
+      (rw (place-exceptions, alone 52 (omega arith) .0, alone 52 (omega arith) .1, bit-same m 52 b, other 52 48 (λ e. omega (arith, e)), other 52 49 (λ e. omega (arith, e)), other 52 50 (λ e. omega (arith, e)), other 52 51 (λ e. omega (arith, e))))
 
 -- a window word's mark stands beside the word of marks
 pub known-word : (m : ℕ) (w : List ℕ) (n : ℕ) → known (mapIn m w) (word n) ≡ eqb (getD w n 1) 1
@@ -156,7 +158,7 @@ number-bits (suc n) i m = rw (number-bits n (i + 1) m, bit-value (m / 2 ^ i % 2)
 -- the word of marks again, without the bits above the last place
 pub word-marks : (m : ℕ) → wordOf (marksOf m) ≡ m % 2 ^ before
 unfolding wordOf marksOf bitsFrom
-word-marks m = rw (joined m 16 32 4, joined m 32 0 20) (number-bits 52 0 m ∙ ap (λ (x : ℕ). x % 2 ^ before) (div-one m))
+word-marks m = rw (joined m 16 32 5, joined m 32 0 21) (number-bits before 0 m ∙ ap (λ (x : ℕ). x % 2 ^ before) (div-one m))
 
 -- ---- bits above the last place say nothing
 
@@ -174,7 +176,7 @@ bits-below (suc n) i m k h = ap₂ (λ (x : Bool) (l : List Bool). x ∷ l) (bit
 pub marks-below : (m : ℕ) → marksOf (m % 2 ^ before) ≡ marksOf m
 unfolding marksOf
 marks-below m =
-    rw (bits-below 32 0 m 52 (omega arith), bits-below 16 32 m 52 (omega arith), bit-below m 52 48 (omega arith), bit-below m 52 49 (omega arith), bit-below m 52 50 (omega arith), bit-below m 52 51 (omega arith))
+    rw (bits-below 32 0 m before (omega arith), bits-below 16 32 m before (omega arith), bit-below m before 48 (omega arith), bit-below m before 49 (omega arith), bit-below m before 50 (omega arith), bit-below m before 51 (omega arith), bit-below m before 52 (omega arith))
 
 -- two words that differ above the last place alone are one map
 pub same-map : (m n : ℕ) (w : List ℕ) → m % 2 ^ before ≡ n % 2 ^ before → mapIn m w ≡ mapIn n w
@@ -223,12 +225,12 @@ row l (suc n) i h =
 
 module _ (k : Marks) (hs : length (k .s) ≡ 32) (hr : length (k .r) ≡ 16) where
   abbrev tail : List Bool
-  tail = k .flags ∷ k .control ∷ k .exc ∷ k .nzcv ∷ []
+  tail = k .flags ∷ k .control ∷ k .exc ∷ k .nzcv ∷ k .exceptions ∷ []
 
   abbrev all : List Bool
   all = k .s ++ (k .r ++ tail)
 
-  all-length : length all ≡ 52
+  all-length : length all ≡ before
   all-length = length-append (k .s) (k .r ++ tail) ∙ rw (length-append (k .r) tail, hs, hr)
 
   late : (i : ℕ) → getD all (48 + i) false ≡ getD tail i false
@@ -239,7 +241,7 @@ module _ (k : Marks) (hs : length (k .s) ≡ 32) (hr : length (k .r) ≡ 16) whe
   pub marks-word : marksOf (wordOf k) ≡ k
   unfolding marksOf wordOf
   marks-word =
-      rw (row all 32 0 (omega (arith, all-length)), row all 16 32 (omega (arith, all-length)), take-at (k .s) (k .r ++ tail) 32 hs, drop-at (k .s) (k .r ++ tail) 32 hs, take-at (k .r) tail 16 hr, bit-number all 48, bit-number all 49, bit-number all 50, bit-number all 51, late 0, late 1, late 2, late 3)
+      rw (row all 32 0 (omega (arith, all-length)), row all 16 32 (omega (arith, all-length)), take-at (k .s) (k .r ++ tail) 32 hs, drop-at (k .s) (k .r ++ tail) 32 hs, take-at (k .r) tail 16 hr, bit-number all 48, bit-number all 49, bit-number all 50, bit-number all 51, bit-number all 52, late 0, late 1, late 2, late 3, late 4)
 
   -- a place is known when its bit of that word is set
   pub known-of : (w : List ℕ) (n : ℕ) → n < before → known (mapOf k w) (place n) ≡ bitOf (wordOf k) n

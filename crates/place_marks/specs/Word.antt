@@ -5,7 +5,7 @@ use mathlib.Core.Bool.{Bool}
 use mathlib.Core.List.{List, [], _∷_, _++_}
 use Rattle.bits.specs.Field.{bitOf}
 use Rattle.bits.specs.Psr.{oneOf}
-use Rattle.machine.specs.Place.{core, flags, control, exc, nzcv, number}
+use Rattle.machine.specs.Place.{core, flags, control, exc, nzcv, exceptions, number}
 use Rattle.meaning.specs.Map.{Marks, Map, mapOf}
 
 -- n bits of a number, from bit i on
@@ -23,6 +23,7 @@ marksOf m =
       control = bitOf m (number control);
       exc = bitOf m (number exc);
       nzcv = bitOf m (number nzcv);
+      exceptions = bitOf m (number exceptions);
     }
 
 -- the map of such a word and the window's marks
@@ -36,7 +37,7 @@ numberOf (b ∷ bs) = numberOf bs * 2 + oneOf b
 
 -- the word of marks: above the last place no bit is set
 unfoldable pub wordOf : Marks → ℕ
-wordOf k = numberOf (k .s ++ (k .r ++ (k .flags ∷ k .control ∷ k .exc ∷ k .nzcv ∷ [])))
+wordOf k = numberOf (k .s ++ (k .r ++ (k .flags ∷ k .control ∷ k .exc ∷ k .nzcv ∷ k .exceptions ∷ [])))
 
 -- a number with bit p set or cleared; all other bits stay
 unfoldable pub withBit : ℕ → ℕ → Bool → ℕ

@@ -1,5 +1,5 @@
 -- Names of places.
-use Prim.Native.Nat.{ℕ, _-_, _≤_, _<_}
+use Prim.Native.Nat.{ℕ, _+_, _-_, _≤_, _<_}
 use native.Mathlib.Omega.{arith}
 use mathlib.Core.Path.{_≡_, refl, sym, _∙_, ap}
 use mathlib.Core.Bool.{Bool, true, false, cond, _&&_}
@@ -8,11 +8,11 @@ use lib.Dec.{eqb, ltb}
 use lib.ListN.{length, getD, take, drop}
 use borrow.Author.Tests.{eq-eqb, ne-eqb, eqb-true, ltb-true, ltb-false, lt-ltb, le-ltb}
 use mathlib.Core.Bool.{true≢false}
-use Rattle.machine.specs.Place.{place}
+use Rattle.machine.specs.Place.{Place, single, core, word, exc, place, before}
 use Rattle.numerals.specs.declared.number.Number.{Number}
 use Rattle.numerals.specs.declared.number.Number.the-variants.{Wrong}
 use Rattle.numerals.specs.Number.{decimalOf, decimalText}
-use Rattle.place_names.specs.Place.{same, within, letterOf, width, nameOf, placeText, flagsText, controlText, fpexcText, nzcvText}
+use Rattle.place_names.specs.Place.{same, within, letterOf, nameOf, placeText, flagsText, controlText, fpexcText, nzcvText, exceptionsText}
 use Rattle.numerals.proofs.Reading.{rest}
 
 -- ---- the same text
@@ -57,7 +57,7 @@ one-at [] h = absurd (omega arith)
 one-at (b ∷ t) h = refl
 
 -- by the first byte
-letter-by : (b : ℕ) (t : List ℕ) → letterOf (b ∷ t) ≡ cond (eqb b 115) (after 0 32 t) (cond (eqb b 114) (after 32 16 t) (cond (eqb b 119) (after 52 16384 t) (after 0 16436 (b ∷ t))))
+letter-by : (b : ℕ) (t : List ℕ) → letterOf (b ∷ t) ≡ cond (eqb b 115) (after 0 32 t) (cond (eqb b 114) (after 32 16 t) (cond (eqb b 119) (after before 16384 t) (after 0 (before + 16384) (b ∷ t))))
 unfolding letterOf after
 letter-by b t = refl
 
@@ -80,32 +80,34 @@ module _ (t : List ℕ) (h : 1 ≤ length t) where
     letter-r e = rest-after 32 16 t ∙ sym (split ∙ letter-by (getD t 0 0) (drop 1 t) ∙ rw e)
 
     module _ (r : getD t 0 0 ≡ 114 → ⊥) where
-      pub letter-w : getD t 0 0 ≡ 119 → within (decimalOf (take (length t - 1) (drop 1 t))) 52 16384 ≡ letterOf t
+      pub letter-w : getD t 0 0 ≡ 119 → within (decimalOf (take (length t - 1) (drop 1 t))) before 16384 ≡ letterOf t
       unfolding after
-      letter-w e = rest-after 52 16384 t ∙ sym (split ∙ letter-by (getD t 0 0) (drop 1 t) ∙ rw e)
+      letter-w e = rest-after before 16384 t ∙ sym (split ∙ letter-by (getD t 0 0) (drop 1 t) ∙ rw e)
 
-      pub letter-none : (getD t 0 0 ≡ 119 → ⊥) → within (decimalOf t) 0 16436 ≡ letterOf t
+      pub letter-none : (getD t 0 0 ≡ 119 → ⊥) → within (decimalOf t) 0 (before + 16384) ≡ letterOf t
       unfolding after
       letter-none w =
           sym
           (split ∙ letter-by (getD t 0 0) (drop 1 t)
-          ∙ rw (ne-eqb (getD t 0 0) 115 s, ne-eqb (getD t 0 0) 114 r, ne-eqb (getD t 0 0) 119 w) (ap (after 0 16436) (sym (one-at t h))))
+          ∙ rw (ne-eqb (getD t 0 0) 115 s, ne-eqb (getD t 0 0) 114 r, ne-eqb (getD t 0 0) 119 w) (ap (after 0 (before + 16384)) (sym (one-at t h))))
 
--- ---- how many bits a place has
+-- ---- which bits a place has
 
-module _ (p : ℕ) (f : p ≡ 48 → ⊥) (c : p ≡ 49 → ⊥) (z : p ≡ 51 → ⊥) where
-  wide : (a b d e g h : Bool) → ltb p 32 ≡ a → ltb p 48 ≡ b → ltb p 49 ≡ d → ltb p 50 ≡ e → ltb p 51 ≡ g → ltb p 52 ≡ h → width (place p) ≡ 32
+-- what holds of the places of whole words holds of all but four
+module _ (P : Place → Type 0) (s : (n : ℕ) → P (single n)) (r : (n : ℕ) → P (core n)) (w : (n : ℕ) → P (word n)) (x : P exc) where
+  pub by-word : (p : ℕ) → (p ≡ 48 → ⊥) → (p ≡ 49 → ⊥) → (p ≡ 51 → ⊥) → (p ≡ 52 → ⊥) → P (place p)
   unfolding place
-  wide true b d e g h i j k l m n = rw i
-  wide false true d e g h i j k l m n = rw (i, j)
-  wide false false true e g h i j k l m n = absurd (omega (arith, ltb-false p 48 j, ltb-true p 49 k))
-  wide false false false true g h i j k l m n = absurd (omega (arith, ltb-false p 49 k, ltb-true p 50 l))
-  wide false false false false true h i j k l m n = rw (i, j, k, l, m)
-  wide false false false false false true i j k l m n = absurd (omega (arith, ltb-false p 51 m, ltb-true p 52 n))
-  wide false false false false false false i j k l m n = rw (i, j, k, l, m, n)
-
-  pub word-wide : width (place p) ≡ 32
-  word-wide = wide _ _ _ _ _ _ refl refl refl refl refl refl
+  by-word p f c z v = by _ _ _ _ _ _ _ refl refl refl refl refl refl refl
+    where
+      by : (a b d e g h q : Bool) → ltb p 32 ≡ a → ltb p 48 ≡ b → ltb p 49 ≡ d → ltb p 50 ≡ e → ltb p 51 ≡ g → ltb p 52 ≡ h → ltb p before ≡ q → P (place p)
+      by true b d e g h q i j k l m n o = rw i (s p)
+      by false true d e g h q i j k l m n o = rw (i, j) (r (p - 32))
+      by false false true e g h q i j k l m n o = absurd (f (omega (arith, ltb-false p 48 j, ltb-true p 49 k)))
+      by false false false true g h q i j k l m n o = absurd (c (omega (arith, ltb-false p 49 k, ltb-true p 50 l)))
+      by false false false false true h q i j k l m n o = rw (i, j, k, l, m) x
+      by false false false false false true q i j k l m n o = absurd (z (omega (arith, ltb-false p 51 m, ltb-true p 52 n)))
+      by false false false false false false true i j k l m n o = absurd (v (omega (arith, ltb-false p 52 n, ltb-true p before o)))
+      by false false false false false false false i j k l m n o = rw (i, j, k, l, m, n, o) (w (p - before))
 
 -- ---- the name of a place, by its number
 
@@ -135,7 +137,12 @@ module _ (p : ℕ) where
   name-nzcv g h =
       rw (le-ltb p 32 (omega arith), le-ltb p 48 (omega arith), le-ltb p 49 (omega arith), le-ltb p 50 (omega arith), le-ltb p 51 g, lt-ltb p 52 h)
 
-  pub name-word : 52 ≤ p → 119 ∷ decimalText (p - 52) ≡ placeText p
+  pub name-exceptions : 52 ≤ p → p < before → exceptionsText ≡ placeText p
+  unfolding placeText nameOf place
+  name-exceptions g h =
+      rw (le-ltb p 32 (omega arith), le-ltb p 48 (omega arith), le-ltb p 49 (omega arith), le-ltb p 50 (omega arith), le-ltb p 51 (omega arith), le-ltb p 52 g, lt-ltb p before h)
+
+  pub name-word : before ≤ p → 119 ∷ decimalText (p - before) ≡ placeText p
   unfolding placeText nameOf place
   name-word g =
-      rw (le-ltb p 32 (omega arith), le-ltb p 48 (omega arith), le-ltb p 49 (omega arith), le-ltb p 50 (omega arith), le-ltb p 51 (omega arith), le-ltb p 52 g)
+      rw (le-ltb p 32 (omega arith), le-ltb p 48 (omega arith), le-ltb p 49 (omega arith), le-ltb p 50 (omega arith), le-ltb p 51 (omega arith), le-ltb p 52 (omega arith), le-ltb p before g)

@@ -1,5 +1,5 @@
 -- A place's name as text, and the place that a text names.
-use Prim.Native.Nat.{ℕ, _+_}
+use Prim.Native.Nat.{ℕ, _+_, _%_, _^_}
 use mathlib.Core.Bool.{Bool, true, false, cond, _&&_}
 use mathlib.Core.List.{List, [], _∷_}
 use lib.Dec.{eqb, ltb}
@@ -8,7 +8,7 @@ use Rattle.numerals.specs.declared.number.Number.{Number}
 use Rattle.numerals.specs.declared.number.Number.the-variants.{Value, Wrong}
 use Rattle.numerals.specs.Number.{decimalOf, decimalText}
 
--- flags, control, fpexc, nzcv
+-- flags, control, fpexc, nzcv, exceptions
 abbrev pub flagsText : List ℕ
 flagsText = 102 ∷ 108 ∷ 97 ∷ 103 ∷ 115 ∷ []
 
@@ -21,7 +21,10 @@ fpexcText = 102 ∷ 112 ∷ 101 ∷ 120 ∷ 99 ∷ []
 abbrev pub nzcvText : List ℕ
 nzcvText = 110 ∷ 122 ∷ 99 ∷ 118 ∷ []
 
--- s0.., r0.., w0.. and the four
+abbrev pub exceptionsText : List ℕ
+exceptionsText = 101 ∷ 120 ∷ 99 ∷ 101 ∷ 112 ∷ 116 ∷ 105 ∷ 111 ∷ 110 ∷ 115 ∷ []
+
+-- s0.., r0.., w0.. and the five
 unfoldable pub nameOf : Machine.Place → List ℕ
 nameOf (Machine.single n) = 115 ∷ decimalText n
 nameOf (Machine.core n) = 114 ∷ decimalText n
@@ -30,6 +33,7 @@ nameOf Machine.flags = flagsText
 nameOf Machine.control = controlText
 nameOf Machine.exc = fpexcText
 nameOf Machine.nzcv = nzcvText
+nameOf Machine.exceptions = exceptionsText
 
 -- the name of the place of a number
 unfoldable pub placeText : ℕ → List ℕ
@@ -63,14 +67,16 @@ placeOf t =
     cond (same t flagsText) (Value (Machine.number Machine.flags))
     (cond (same t controlText) (Value (Machine.number Machine.control))
     (cond (same t fpexcText) (Value (Machine.number Machine.exc))
-    (cond (same t nzcvText) (Value (Machine.number Machine.nzcv)) (letterOf t))))
+    (cond (same t nzcvText) (Value (Machine.number Machine.nzcv))
+    (cond (same t exceptionsText) (Value (Machine.number Machine.exceptions)) (letterOf t)))))
 
--- how many bits a place has
-abbrev pub width : Machine.Place → ℕ
-width (Machine.single n) = 32
-width (Machine.core n) = 32
-width (Machine.word n) = 32
-width Machine.flags = 4
-width Machine.control = 28
-width Machine.exc = 32
-width Machine.nzcv = 4
+-- a value's bits that are a place's own
+abbrev pub ownBits : Machine.Place → ℕ → ℕ
+ownBits (Machine.single n) x = x % 2 ^ 32
+ownBits (Machine.core n) x = x % 2 ^ 32
+ownBits (Machine.word n) x = x % 2 ^ 32
+ownBits Machine.flags x = x % 2 ^ 4
+ownBits Machine.control x = Machine.controlOf x
+ownBits Machine.exc x = x % 2 ^ 32
+ownBits Machine.nzcv x = x % 2 ^ 4
+ownBits Machine.exceptions x = Machine.exceptionsOf x

@@ -1,9 +1,9 @@
 // A place's name, or its number, as text.
 ghost use mathlib.Core.Path.{_≡_};
 ghost use Prim.Native.Nat.{_+_, _<_, _^_};
-ghost use lib.Dec.{ltb};
+ghost use lib.Dec.{eqb};
 ghost use Rattle.machine.specs.Place.{place as placeAt};
-ghost use Rattle.place_names.specs.Place.{placeOf, letterOf, within, width};
+ghost use Rattle.place_names.specs.Place.{placeOf, letterOf, within, ownBits};
 use machine::place;
 use numerals::number::Number;
 use numerals::number::decimal_of;
@@ -18,6 +18,8 @@ pub const CONTROL: u32 = place::CONTROL as u32;
 pub const EXC: u32 = place::EXC as u32;
 
 pub const NZCV: u32 = place::NZCV as u32;
+
+pub const EXCEPTIONS: u32 = place::EXCEPTIONS as u32;
 
 pub const WINDOW: u32 = place::WINDOW as u32;
 
@@ -39,6 +41,9 @@ pub fn place_of(text: &[u8]) -> Number
     }
     if check::same(text, b"nzcv") {
         return Number::Value(NZCV);
+    }
+    if check::same(text, b"exceptions") {
+        return Number::Value(EXCEPTIONS);
     }
     letter_of(text)
 }
@@ -79,18 +84,28 @@ fn placed(n: Number, from: u32, count: u32) -> Number
     }
 }
 
-// Whether a value has no bit outside its place's own.
-pub fn fits(place: u32, value: u32) -> bool
-    ensures { λ r. ⌜ r ≡ ltb value (2 ^ width (placeAt place)) ⌝ }
+// A value's bits that are its place's own.
+pub fn own_bits(place: u32, value: u32) -> u32
+    ensures { λ r. ⌜ r ≡ ownBits (placeAt place) value ⌝ }
 {
     if place == FLAGS {
-        return value < 16;
+        return value % 16;
     }
     if place == CONTROL {
-        return value < 0x1000_0000;
+        return place::control_of(value);
     }
     if place == NZCV {
-        return value < 16;
+        return value % 16;
     }
-    true
+    if place == EXCEPTIONS {
+        return value % 32;
+    }
+    value
+}
+
+// Whether a value has no bit outside its place's own.
+pub fn fits(place: u32, value: u32) -> bool
+    ensures { λ r. ⌜ r ≡ eqb (ownBits (placeAt place) value) value ⌝ }
+{
+    own_bits(place, value) == value
 }

@@ -52,7 +52,7 @@ pub fn value(state: &[u32], window: &[u32], p: usize) -> u32
 }
 
 // Whether a place's mark or its known value is another.
-fn differs(was: bool, old: u32, is: bool, new: u32) -> bool
+pub fn differs(was: bool, old: u32, is: bool, new: u32) -> bool
     ensures { λ r. ⌜ r ≡ differsOf was old is new ⌝ }
 {
     if was != is {

@@ -35,7 +35,7 @@ abbrev pub convertStep : Format → ℕ → Step
 convertStep binary32 w = widenStep (regD binary64 w) (regM binary32 w)
 convertStep binary64 w = narrowStep (regD binary32 w) (regM binary64 w)
 
--- a stepping word asks for FPSCR 27:0, and makes so many iterations in turn
+-- a stepping word asks for FPSCR 27:5, and makes so many iterations in turn
 abbrev pub stepping : Format → ℕ → (ℕ → ℕ → Step) → Tree
 stepping f d each = ask control (λ c. go (record { count = iterationsOf f c d; each = each c; tail = [] }))
 
@@ -66,10 +66,10 @@ operationTree thumb f w Fcpy = monadic f w (λ c. signStep f Copy)
 operationTree thumb f w Fabs = monadic f w (λ c. signStep f Absolute)
 operationTree thumb f w Fneg = monadic f w (λ c. signStep f Negate)
 operationTree thumb f w Fsqrt = monadic f w (rootStep f)
-operationTree thumb f w Fcmp = go (once (compareStep f (regD f w) (regM f w)))
-operationTree thumb f w Fcmpe = go (once (compareStep f (regD f w) (regM f w)))
-operationTree thumb f w Fcmpz = go (once (compareZeroStep f (regD f w)))
-operationTree thumb f w Fcmpez = go (once (compareZeroStep f (regD f w)))
+operationTree thumb f w Fcmp = go (once (compareStep f false (regD f w) (regM f w)))
+operationTree thumb f w Fcmpe = go (once (compareStep f true (regD f w) (regM f w)))
+operationTree thumb f w Fcmpz = go (once (compareZeroStep f false (regD f w)))
+operationTree thumb f w Fcmpez = go (once (compareZeroStep f true (regD f w)))
 operationTree thumb f w Fcvt = go (once (convertStep f w))
 operationTree thumb f w Fuito = go (once (fromStep f false (regD f w) (regM binary32 w)))
 operationTree thumb f w Fsito = go (once (fromStep f true (regD f w) (regM binary32 w)))

@@ -14,6 +14,7 @@ use decoding::fields::single_d;
 use decoding::fields::single_m;
 use decoding::operation::Operation;
 use decoding::operation::arithmetic_of;
+use machine::place::control_of;
 use steps::compare::compare_double;
 use steps::compare::compare_double_zero;
 use steps::root::root_doubles;
@@ -23,6 +24,7 @@ use steps::sign::sign_doubles;
 pub(crate) fn process_double(s: &mut [u32; 32], fpscr: u32, op: u32, o: Operation) -> Processed
     ensures { λ r. ⌜ Handled (namedTree binary64 op o) op (now (s .entry)) fpscr (now (s .exit)) r ⌝ }
 {
+    let control = control_of(fpscr);
     match o {
         Operation::Fmac
         | Operation::Fnmac
@@ -33,30 +35,24 @@ pub(crate) fn process_double(s: &mut [u32; 32], fpscr: u32, op: u32, o: Operatio
         | Operation::Fadd
         | Operation::Fsub
         | Operation::Fdiv => {
-            arithmetic_doubles(
+            let next = arithmetic_doubles(
                 s,
-                fpscr % 0x1000_0000,
+                fpscr,
                 arithmetic_of(o),
                 double_d(op),
                 double_n(op),
                 double_m(op),
             );
-            Processed::Done(fpscr)
+            Processed::Done(next)
         }
         Operation::Fcpy => {
-            sign_doubles(
-                s,
-                fpscr % 0x1000_0000,
-                SignOperation::Copy,
-                double_d(op),
-                double_m(op),
-            );
+            sign_doubles(s, control, SignOperation::Copy, double_d(op), double_m(op));
             Processed::Done(fpscr)
         }
         Operation::Fabs => {
             sign_doubles(
                 s,
-                fpscr % 0x1000_0000,
+                control,
                 SignOperation::Absolute,
                 double_d(op),
                 double_m(op),
@@ -66,7 +62,7 @@ pub(crate) fn process_double(s: &mut [u32; 32], fpscr: u32, op: u32, o: Operatio
         Operation::Fneg => {
             sign_doubles(
                 s,
-                fpscr % 0x1000_0000,
+                control,
                 SignOperation::Negate,
                 double_d(op),
                 double_m(op),
@@ -74,44 +70,52 @@ pub(crate) fn process_double(s: &mut [u32; 32], fpscr: u32, op: u32, o: Operatio
             Processed::Done(fpscr)
         }
         Operation::Fsqrt => {
-            root_doubles(s, fpscr % 0x1000_0000, double_d(op), double_m(op));
-            Processed::Done(fpscr)
-        }
-        Operation::Fcmp | Operation::Fcmpe => {
-            let next = compare_double(s, fpscr, double_d(op), double_m(op));
+            let next = root_doubles(s, control, fpscr, double_d(op), double_m(op));
             Processed::Done(next)
         }
-        Operation::Fcmpz | Operation::Fcmpez => {
-            let next = compare_double_zero(s, fpscr, double_d(op));
+        Operation::Fcmp => {
+            let next = compare_double(s, fpscr, false, double_d(op), double_m(op));
+            Processed::Done(next)
+        }
+        Operation::Fcmpe => {
+            let next = compare_double(s, fpscr, true, double_d(op), double_m(op));
+            Processed::Done(next)
+        }
+        Operation::Fcmpz => {
+            let next = compare_double_zero(s, fpscr, false, double_d(op));
+            Processed::Done(next)
+        }
+        Operation::Fcmpez => {
+            let next = compare_double_zero(s, fpscr, true, double_d(op));
             Processed::Done(next)
         }
         Operation::Fcvt => {
-            narrow_double(s, fpscr, single_d(op), double_m(op));
-            Processed::Done(fpscr)
+            let next = narrow_double(s, fpscr, single_d(op), double_m(op));
+            Processed::Done(next)
         }
         Operation::Fuito => {
-            from_integer_double(s, false, double_d(op), single_m(op));
-            Processed::Done(fpscr)
+            let next = from_integer_double(s, fpscr, false, double_d(op), single_m(op));
+            Processed::Done(next)
         }
         Operation::Fsito => {
-            from_integer_double(s, true, double_d(op), single_m(op));
-            Processed::Done(fpscr)
+            let next = from_integer_double(s, fpscr, true, double_d(op), single_m(op));
+            Processed::Done(next)
         }
         Operation::Ftoui => {
-            round_double(s, fpscr, false, single_d(op), double_m(op));
-            Processed::Done(fpscr)
+            let next = round_double(s, fpscr, false, single_d(op), double_m(op));
+            Processed::Done(next)
         }
         Operation::Ftouiz => {
-            truncate_double(s, false, single_d(op), double_m(op));
-            Processed::Done(fpscr)
+            let next = truncate_double(s, fpscr, false, single_d(op), double_m(op));
+            Processed::Done(next)
         }
         Operation::Ftosi => {
-            round_double(s, fpscr, true, single_d(op), double_m(op));
-            Processed::Done(fpscr)
+            let next = round_double(s, fpscr, true, single_d(op), double_m(op));
+            Processed::Done(next)
         }
         Operation::Ftosiz => {
-            truncate_double(s, true, single_d(op), double_m(op));
-            Processed::Done(fpscr)
+            let next = truncate_double(s, fpscr, true, single_d(op), double_m(op));
+            Processed::Done(next)
         }
         Operation::Undefined => Processed::Undefined,
     }

@@ -13,6 +13,7 @@ use decoding::fields::single_m;
 use decoding::fields::single_n;
 use decoding::operation::Operation;
 use decoding::operation::arithmetic_of;
+use machine::place::control_of;
 use steps::compare::compare_single;
 use steps::compare::compare_single_zero;
 use steps::root::root_singles;
@@ -22,6 +23,7 @@ use steps::sign::sign_singles;
 pub(crate) fn process_single(s: &mut [u32; 32], fpscr: u32, op: u32, o: Operation) -> Processed
     ensures { λ r. ⌜ Handled (namedTree binary32 op o) op (now (s .entry)) fpscr (now (s .exit)) r ⌝ }
 {
+    let control = control_of(fpscr);
     match o {
         Operation::Fmac
         | Operation::Fnmac
@@ -32,30 +34,24 @@ pub(crate) fn process_single(s: &mut [u32; 32], fpscr: u32, op: u32, o: Operatio
         | Operation::Fadd
         | Operation::Fsub
         | Operation::Fdiv => {
-            arithmetic_singles(
+            let next = arithmetic_singles(
                 s,
-                fpscr % 0x1000_0000,
+                fpscr,
                 arithmetic_of(o),
                 single_d(op),
                 single_n(op),
                 single_m(op),
             );
-            Processed::Done(fpscr)
+            Processed::Done(next)
         }
         Operation::Fcpy => {
-            sign_singles(
-                s,
-                fpscr % 0x1000_0000,
-                SignOperation::Copy,
-                single_d(op),
-                single_m(op),
-            );
+            sign_singles(s, control, SignOperation::Copy, single_d(op), single_m(op));
             Processed::Done(fpscr)
         }
         Operation::Fabs => {
             sign_singles(
                 s,
-                fpscr % 0x1000_0000,
+                control,
                 SignOperation::Absolute,
                 single_d(op),
                 single_m(op),
@@ -65,7 +61,7 @@ pub(crate) fn process_single(s: &mut [u32; 32], fpscr: u32, op: u32, o: Operatio
         Operation::Fneg => {
             sign_singles(
                 s,
-                fpscr % 0x1000_0000,
+                control,
                 SignOperation::Negate,
                 single_d(op),
                 single_m(op),
@@ -73,44 +69,52 @@ pub(crate) fn process_single(s: &mut [u32; 32], fpscr: u32, op: u32, o: Operatio
             Processed::Done(fpscr)
         }
         Operation::Fsqrt => {
-            root_singles(s, fpscr % 0x1000_0000, single_d(op), single_m(op));
-            Processed::Done(fpscr)
-        }
-        Operation::Fcmp | Operation::Fcmpe => {
-            let next = compare_single(s, fpscr, single_d(op), single_m(op));
+            let next = root_singles(s, control, fpscr, single_d(op), single_m(op));
             Processed::Done(next)
         }
-        Operation::Fcmpz | Operation::Fcmpez => {
-            let next = compare_single_zero(s, fpscr, single_d(op));
+        Operation::Fcmp => {
+            let next = compare_single(s, fpscr, false, single_d(op), single_m(op));
+            Processed::Done(next)
+        }
+        Operation::Fcmpe => {
+            let next = compare_single(s, fpscr, true, single_d(op), single_m(op));
+            Processed::Done(next)
+        }
+        Operation::Fcmpz => {
+            let next = compare_single_zero(s, fpscr, false, single_d(op));
+            Processed::Done(next)
+        }
+        Operation::Fcmpez => {
+            let next = compare_single_zero(s, fpscr, true, single_d(op));
             Processed::Done(next)
         }
         Operation::Fcvt => {
-            widen_single(s, fpscr, double_d(op), single_m(op));
-            Processed::Done(fpscr)
+            let next = widen_single(s, fpscr, double_d(op), single_m(op));
+            Processed::Done(next)
         }
         Operation::Fuito => {
-            from_integer_single(s, fpscr, false, single_d(op), single_m(op));
-            Processed::Done(fpscr)
+            let next = from_integer_single(s, fpscr, false, single_d(op), single_m(op));
+            Processed::Done(next)
         }
         Operation::Fsito => {
-            from_integer_single(s, fpscr, true, single_d(op), single_m(op));
-            Processed::Done(fpscr)
+            let next = from_integer_single(s, fpscr, true, single_d(op), single_m(op));
+            Processed::Done(next)
         }
         Operation::Ftoui => {
-            round_single(s, fpscr, false, single_d(op), single_m(op));
-            Processed::Done(fpscr)
+            let next = round_single(s, fpscr, false, single_d(op), single_m(op));
+            Processed::Done(next)
         }
         Operation::Ftouiz => {
-            truncate_single(s, false, single_d(op), single_m(op));
-            Processed::Done(fpscr)
+            let next = truncate_single(s, fpscr, false, single_d(op), single_m(op));
+            Processed::Done(next)
         }
         Operation::Ftosi => {
-            round_single(s, fpscr, true, single_d(op), single_m(op));
-            Processed::Done(fpscr)
+            let next = round_single(s, fpscr, true, single_d(op), single_m(op));
+            Processed::Done(next)
         }
         Operation::Ftosiz => {
-            truncate_single(s, true, single_d(op), single_m(op));
-            Processed::Done(fpscr)
+            let next = truncate_single(s, fpscr, true, single_d(op), single_m(op));
+            Processed::Done(next)
         }
         Operation::Undefined => Processed::Undefined,
     }

@@ -1,5 +1,5 @@
 -- From the marks that a leaf leaves to those that its word means, over the precision.
-use Prim.Native.Nat.{ℕ, _%_, _^_}
+use Prim.Native.Nat.{ℕ}
 use mathlib.Core.Path.{_≡_, refl}
 use mathlib.Core.Bool.{Bool, cond}
 use mathlib.Core.List.{List, [], _∷_}
@@ -8,7 +8,7 @@ use lib.Ieee.{Format, binary32}
 use denote.Enum.Declared.{tagOf}
 use types.Run.{OneOf}
 use Rattle.machine.specs.Machine.{withFpscr}
-use Rattle.machine.specs.Place.{control, core, state}
+use Rattle.machine.specs.Place.{controlOf, control, core, state}
 use Rattle.meaning.specs.Step.{Step, once}
 use Rattle.meaning.specs.Tree.{Tree, go}
 use Rattle.meaning.proofs.Laws.{marked-ask, marked-family, marked-once, marked-stop}
@@ -34,20 +34,20 @@ use Rattle.processing_marks.specs.Marked.{Marked, MarksStepped, MarksIte
 
 module _ (fpscr m m′ : ℕ) (t : Bool → Tree) where
   stepping-marked : (f : Format) (d : ℕ) (each : ℕ → ℕ → Step) → ((thumb : Bool) → t thumb ≡ stepping f d each)
-      → MarksIterated (iterationsOf f (fpscr % 2 ^ 28) d) (each (fpscr % 2 ^ 28)) m m′
+      → MarksIterated (iterationsOf f (controlOf fpscr) d) (each (controlOf fpscr)) m m′
       → Marked t fpscr m m′
   stepping-marked f d each e h thumb q v w =
       rw (e thumb)
       (marked-ask control _ (state (withFpscr q fpscr) v) (mapIn m w) _
-      (marked-family _ (each (fpscr % 2 ^ 28)) (state (withFpscr q fpscr) v) (mapIn m w) _ (h w)))
+      (marked-family _ (each (controlOf fpscr)) (state (withFpscr q fpscr) v) (mapIn m w) _ (h w)))
 
   pub dyadic-marked : (f : Format) (w₀ : ℕ) (kind : Arithmetic) → ((thumb : Bool) → t thumb ≡ dyadic f w₀ kind)
-      → MarksIterated (iterationsOf f (fpscr % 2 ^ 28) (regD f w₀)) (dyadicStep f (fpscr % 2 ^ 28) kind (regD f w₀) (regN f w₀) (regM f w₀)) m m′
+      → MarksIterated (iterationsOf f (controlOf fpscr) (regD f w₀)) (dyadicStep f (controlOf fpscr) kind (regD f w₀) (regN f w₀) (regM f w₀)) m m′
       → Marked t fpscr m m′
   dyadic-marked f w₀ kind e h = stepping-marked f (regD f w₀) (λ c. dyadicStep f c kind (regD f w₀) (regN f w₀) (regM f w₀)) e h
 
   pub monadic-marked : (f : Format) (w₀ : ℕ) (one : ℕ → ℕ → ℕ → Step) → ((thumb : Bool) → t thumb ≡ monadic f w₀ one)
-      → MarksIterated (iterationsOf f (fpscr % 2 ^ 28) (regD f w₀)) (monadicStep f (fpscr % 2 ^ 28) (one (fpscr % 2 ^ 28)) (regD f w₀) (regM f w₀)) m m′
+      → MarksIterated (iterationsOf f (controlOf fpscr) (regD f w₀)) (monadicStep f (controlOf fpscr) (one (controlOf fpscr)) (regD f w₀) (regM f w₀)) m m′
       → Marked t fpscr m m′
   monadic-marked f w₀ one e h = stepping-marked f (regD f w₀) (λ c. monadicStep f c (one c) (regD f w₀) (regM f w₀)) e h
 
@@ -74,20 +74,20 @@ module _ (f : Format) (w fpscr m m′ : ℕ) (o : Operation) where
   Marks = Marked (namedTree f w o) fpscr m m′
 
   pub arithmetic : (k : Arithmetic) → k ≡ arithmeticOf o → OneOf (1 ∷ 2 ∷ 3 ∷ 4 ∷ 5 ∷ 6 ∷ 7 ∷ 8 ∷ 9 ∷ []) (tagOf the-type o)
-      → MarksIterated (iterationsOf f (fpscr % 2 ^ 28) (regD f w)) (dyadicStep f (fpscr % 2 ^ 28) k (regD f w) (regN f w) (regM f w)) m m′ → Marks
+      → MarksIterated (iterationsOf f (controlOf fpscr) (regD f w)) (dyadicStep f (controlOf fpscr) k (regD f w) (regN f w) (regM f w)) m m′ → Marks
   unfolding operationTree operationNumbered
   arithmetic k e h g =
       dyadic-marked fpscr m m′ (namedTree f w o) f w (arithmeticOf o)
       (λ thumb. one-of (λ p. operationTree thumb f w p) (λ p. dyadic f w (arithmeticOf p)) (1 ∷ 2 ∷ 3 ∷ 4 ∷ 5 ∷ 6 ∷ 7 ∷ 8 ∷ 9 ∷ []) o h refl) (rw (← e) g)
 
   pub signed : OneOf (10 ∷ 11 ∷ 12 ∷ []) (tagOf the-type o)
-      → ((sign : SignOperation) → MarksIterated (iterationsOf f (fpscr % 2 ^ 28) (regD f w)) (monadicStep f (fpscr % 2 ^ 28) (signStep f sign) (regD f w) (regM f w)) m m′) → Marks
+      → ((sign : SignOperation) → MarksIterated (iterationsOf f (controlOf fpscr) (regD f w)) (monadicStep f (controlOf fpscr) (signStep f sign) (regD f w) (regM f w)) m m′) → Marks
   unfolding operationTree operationNumbered
   signed h g =
       monadic-marked fpscr m m′ (namedTree f w o) f w (λ c. signStep f (signOf o))
       (λ thumb. one-of (λ p. operationTree thumb f w p) (λ p. monadic f w (λ c. signStep f (signOf p))) (10 ∷ 11 ∷ 12 ∷ []) o h refl) (g (signOf o))
 
-  pub rooted : o ≡ Fsqrt → MarksIterated (iterationsOf f (fpscr % 2 ^ 28) (regD f w)) (monadicStep f (fpscr % 2 ^ 28) (rootStep f (fpscr % 2 ^ 28)) (regD f w) (regM f w)) m m′ → Marks
+  pub rooted : o ≡ Fsqrt → MarksIterated (iterationsOf f (controlOf fpscr) (regD f w)) (monadicStep f (controlOf fpscr) (rootStep f (controlOf fpscr)) (regD f w) (regM f w)) m m′ → Marks
   unfolding operationTree
   rooted e g = monadic-marked fpscr m m′ (namedTree f w o) f w (rootStep f) (λ thumb. rw e) g
 
@@ -96,13 +96,13 @@ module _ (f : Format) (w fpscr m m′ : ℕ) (o : Operation) where
       → MarksStepped (x o) m m′ → Marks
   once-of ks x h e g = once-marked fpscr m m′ (namedTree f w o) (x o) (λ thumb. one-of (λ p. operationTree thumb f w p) (λ p. go (once (x p))) ks o h (e thumb)) g
 
-  pub compared : OneOf (14 ∷ 15 ∷ []) (tagOf the-type o) → MarksStepped (compareStep f (regD f w) (regM f w)) m m′ → Marks
+  pub compared : OneOf (14 ∷ 15 ∷ []) (tagOf the-type o) → ((any : Bool) → MarksStepped (compareStep f any (regD f w) (regM f w)) m m′) → Marks
   unfolding operationTree operationNumbered
-  compared h g = once-of (14 ∷ 15 ∷ []) (λ p. compareStep f (regD f w) (regM f w)) h (λ thumb. refl) g
+  compared h g = once-of (14 ∷ 15 ∷ []) (λ p. compareStep f (eqb (numberOf p) 15) (regD f w) (regM f w)) h (λ thumb. refl) (g (eqb (numberOf o) 15))
 
-  pub compared-zero : OneOf (16 ∷ 17 ∷ []) (tagOf the-type o) → MarksStepped (compareZeroStep f (regD f w)) m m′ → Marks
+  pub compared-zero : OneOf (16 ∷ 17 ∷ []) (tagOf the-type o) → ((any : Bool) → MarksStepped (compareZeroStep f any (regD f w)) m m′) → Marks
   unfolding operationTree operationNumbered
-  compared-zero h g = once-of (16 ∷ 17 ∷ []) (λ p. compareZeroStep f (regD f w)) h (λ thumb. refl) g
+  compared-zero h g = once-of (16 ∷ 17 ∷ []) (λ p. compareZeroStep f (eqb (numberOf p) 17) (regD f w)) h (λ thumb. refl) (g (eqb (numberOf o) 17))
 
   pub converted : o ≡ Fcvt → MarksStepped (convertStep f w) m m′ → Marks
   unfolding operationTree

@@ -6,8 +6,8 @@ use mathlib.Core.List.{List, [], _∷_}
 use lib.Ieee.{Format}
 use Rattle.machine.specs.declared.Machine.{Machine}
 use Rattle.machine.specs.Machine.{withFpscr}
-use Rattle.machine.specs.Place.{state}
-use Rattle.meaning.specs.Map.{Map}
+use Rattle.machine.specs.Place.{state, exceptions}
+use Rattle.meaning.specs.Map.{Map, known, mark}
 use Rattle.meaning.specs.Step.{Step, stepMarks, afterMarks}
 use Rattle.meaning.specs.Tree.{Tree}
 use Rattle.meaning.specs.Hang.{marked}
@@ -33,3 +33,7 @@ Copies f one = (d m : ℕ) (μ : Map) → stepMarks (one d m) μ ≡ copyIn f μ
 abbrev pub allIn : Format → Map → List ℕ → Bool
 allIn f μ [] = true
 allIn f μ (n ∷ ns) = allIn f μ ns && knownIn f μ n
+
+-- after a number operation the cumulative exception bits are known where they were and all that is read for them is
+abbrev pub markRaised : Map → Bool → Map
+markRaised μ all = mark μ exceptions (all && known μ exceptions)

@@ -1,2 +1,3 @@
 // The marks of stepping words.
+pub mod raised;
 pub mod vector;

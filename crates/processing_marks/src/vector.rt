@@ -6,6 +6,7 @@ ghost use Rattle.short_vectors.specs.Vector.{iterationsOf, monadicStep};
 ghost use Rattle.arithmetic_steps.specs.Arithmetic.{arithmeticStep, dyadicStep};
 ghost use Rattle.steps.specs.Root.{rootStep};
 ghost use Rattle.processing_marks.specs.Marked.{MarksStepped, MarksIterated, Copies};
+use super::raised::mark_raised;
 use machine::registers::Double;
 use machine::registers::Single;
 use numbers::arithmetic::Arithmetic;
@@ -23,10 +24,10 @@ pub fn mark_sum_single(marks: u64, kind: Arithmetic, d: Single, n: Single, m: Si
 {
     if reads_d(kind) {
         let all = single_known(marks, d) & single_known(marks, m) & single_known(marks, n);
-        return mark_single(marks, d, all);
+        return mark_raised(mark_single(marks, d, all), all);
     }
     let all = single_known(marks, m) & single_known(marks, n);
-    mark_single(marks, d, all)
+    mark_raised(mark_single(marks, d, all), all)
 }
 
 pub fn mark_sum_double(marks: u64, kind: Arithmetic, d: Double, n: Double, m: Double) -> u64
@@ -34,10 +35,10 @@ pub fn mark_sum_double(marks: u64, kind: Arithmetic, d: Double, n: Double, m: Do
 {
     if reads_d(kind) {
         let all = double_known(marks, d) & double_known(marks, m) & double_known(marks, n);
-        return mark_double(marks, d, all);
+        return mark_raised(mark_double(marks, d, all), all);
     }
     let all = double_known(marks, m) & double_known(marks, n);
-    mark_double(marks, d, all)
+    mark_raised(mark_double(marks, d, all), all)
 }
 
 pub fn arithmetic_singles(
@@ -101,7 +102,7 @@ pub fn arithmetic_doubles(
     }
 }
 
-// Moves, sign changes and, in single precision, roots: the marks are copied.
+// Moves and sign changes: the marks are copied.
 pub fn copy_singles(marks: u64, control: u32, d: Single, m: Single) -> u64
     requires { ⌜ (d .0 < 32) × (m .0 < 32) ⌝ }
     ensures { λ y. ⌜ ((one : ℕ → ℕ → Step) → Copies binary32 one → MarksIterated (iterationsOf binary32 control (d .0)) (monadicStep binary32 control one (d .0) (m .0)) marks y) ⌝ }
@@ -144,7 +145,42 @@ pub fn copy_doubles(marks: u64, control: u32, d: Double, m: Double) -> u64
     }
 }
 
-// Roots: both words of the target are known when both of the operand are.
+// A root: the target is known when every word of the operand is.
+pub fn mark_root_single(marks: u64, d: Single, m: Single) -> u64
+    ensures { λ y. ⌜ ((control : ℕ) → MarksStepped (rootStep binary32 control (d .0) (m .0)) marks y) ⌝ }
+{
+    let all = single_known(marks, m);
+    mark_raised(mark_single(marks, d, all), all)
+}
+
+pub fn mark_root_double(marks: u64, d: Double, m: Double) -> u64
+    ensures { λ y. ⌜ ((control : ℕ) → MarksStepped (rootStep binary64 control (d .0) (m .0)) marks y) ⌝ }
+{
+    let all = double_known(marks, m);
+    mark_raised(mark_double(marks, d, all), all)
+}
+
+pub fn root_singles(marks: u64, control: u32, d: Single, m: Single) -> u64
+    requires { ⌜ (d .0 < 32) × (m .0 < 32) ⌝ }
+    ensures { λ y. ⌜ MarksIterated (iterationsOf binary32 control (d .0)) (monadicStep binary32 control (rootStep binary32 control) (d .0) (m .0)) marks y ⌝ }
+{
+    let vector = Vector::new(control, false, d.0);
+    let count = vector.iterations;
+    let mut done = marks;
+    let mut dn = d.0;
+    let mut mn = m.0;
+    let mut i: usize = 0;
+    loop {
+        done = mark_root_single(done, Single(dn), Single(mn));
+        i += 1;
+        if i >= count {
+            return done;
+        }
+        dn = vector.step(dn, 1);
+        mn = vector.second(mn, 1);
+    }
+}
+
 pub fn root_doubles(marks: u64, control: u32, d: Double, m: Double) -> u64
     requires { ⌜ (d .0 < 32) × (m .0 < 32) ⌝ }
     ensures { λ y. ⌜ MarksIterated (iterationsOf binary64 control (d .0)) (monadicStep binary64 control (rootStep binary64 control) (d .0) (m .0)) marks y ⌝ }
@@ -156,7 +192,7 @@ pub fn root_doubles(marks: u64, control: u32, d: Double, m: Double) -> u64
     let mut mn = m.0;
     let mut far: usize = 0;
     loop {
-        done = mark_double(done, Double(dn), double_known(done, Double(mn)));
+        done = mark_root_double(done, Double(dn), Double(mn));
         far += vector.stride;
         if far >= end {
             return done;

@@ -2,11 +2,12 @@
 use mathlib.Core.Path.{_≡_, refl, sym, ap, _∙_, subst}
 use mathlib.Core.Logic.{_⊎_, inl, inr}
 use mathlib.Core.Bool.{Bool, true, false, _&&_, _||_, cond}
-use Prim.Native.Nat.{ℕ, _+_, _*_, _/_, _%_, _^_, _≤_, _<_, max}
+use Prim.Native.Nat.{ℕ, _+_, _-_, _*_, _/_, _%_, _^_, _≤_, _<_, max}
 use native.Mathlib.Nat.{div-add-mod', mod-lt}
 use native.Mathlib.Omega.{arith}
 use lib.Bits.{bitOr, or-step, or-block, or-zero-l, or-zero-r, or-self}
-use lib.Dec.{lit<}
+use borrow.Author.Tests.{ltb-true}
+use lib.Dec.{ltb, lit<}
 use lib.Ieee.{Float, nan, inf, fin, Format, binary32, binary64, hid, ones, top, neg, isNan, ofBits, toBits, nanBits}
 use Rattle.floats.specs.Flush.{flush}
 use Rattle.rounding.specs.Rounding.{roundingOf}
@@ -26,11 +27,11 @@ use Rattle.floats.proofs.Flushing.{flush-none}
 use Rattle.nans.proofs.Choosing.{negation-is}
 use Rattle.exceptions.proofs.Nans.{numbers-raise}
 use Rattle.operators.proofs.Nearest.{sum-nearest, difference-nearest}
-use Rattle.numbers.proofs.Applying.{word-of-value}
+use Rattle.numbers.proofs.Applying.{word-of-value, not-taken}
 use Rattle.directed.proofs.Negation.{neg-word}
 use Rattle.directed.proofs.Values.{applied-lt}
 use Rattle.directed.proofs.Nearest.{mode-nearest, native-applied}
-use Rattle.quiet.specs.Quiet.{Within, IsFinite, IsZero, Product, Quiet}
+use Rattle.quiet.specs.Quiet.{Within, IsFinite, IsZero, Product, Quiet, IsQuick}
 use Rattle.quiet.proofs.Values.{sum-quiet, difference-quiet, product-quiet, quotient-quiet, operated-quiet, both-numbers, product-zero, sum-zero}
 
 -- a value that is not written as the default NaN is a number
@@ -155,7 +156,7 @@ module _ (f : Format) (control n m d : ℕ) (N : n < 2 * top f) (M : m < 2 * top
       (sym (numbers-raise f (productExceptions (roundingOf control) f) n m (nanBits f n) (nanBits f m) refl refl (both-numbers f n m (h .0) (h .1)))
       ∙ product-zero (roundingOf control) f n m (h .0) (h .1) (h .2))
 
-  first-quiet : (kind : Arithmetic) → Product f kind n m d → Quiet (firstExceptions f control kind n m)
+  first-quiet : (kind : Arithmetic) → Product f (accumulates kind) n m d → Quiet (firstExceptions f control kind n m)
   first-quiet kind (inl e) = inl (ap (λ (t : Bool). cond t (raisedBy productExceptions f control n m) 0) e)
   first-quiet kind (inr h) = either (accumulates kind)
     where
@@ -164,7 +165,7 @@ module _ (f : Format) (control n m d : ℕ) (N : n < 2 * top f) (M : m < 2 * top
       either false = inl refl
 
   -- the native result is stored as it is, and at most inexact is raised
-  pub native-quiet : (kind : Arithmetic) → Product f kind n m d → Within f (applied f kind n m d)
+  pub native-quiet : (kind : Arithmetic) → Product f (accumulates kind) n m d → Within f (applied f kind n m d)
       → (arithmeticBy f control kind n m d ≡ applied f kind n m d) × Quiet (exceptionsBy f control kind n m d)
   native-quiet kind p h =
       let e = same-word kind (inl h) in
@@ -211,3 +212,19 @@ module _ (f : Format) (control n m d : ℕ) (N : n < 2 * top f) (M : m < 2 * top
       same : (f : Format) → m < 2 * top f → (m + top f) % (2 * top f) % top f ≡ m % top f
       same binary32 h = omega arith
       same binary64 h = omega arith
+
+-- ---- what the code takes
+
+-- twice the word, less twice the least normal value and 2: what is within comes first
+pub within-doubled : (f : Format) (b x y : ℕ) → x ≡ (b + b) % (2 * top f) → y ≡ (x + (2 * top f - (2 * hid f + 2))) % (2 * top f)
+    → ltb y (2 * (ones f * hid f) - (2 * hid f + 2)) ≡ true → Within f b
+within-doubled f b x y e g h = by f e g (ltb-true y (2 * (ones f * hid f) - (2 * hid f + 2)) h)
+  where
+    by : (f : Format) → x ≡ (b + b) % (2 * top f) → y ≡ (x + (2 * top f - (2 * hid f + 2))) % (2 * top f) → y < 2 * (ones f * hid f) - (2 * hid f + 2) → Within f b
+    by binary32 e g l = (omega arith, omega arith)
+    by binary64 e g l = (omega arith, omega arith)
+
+pub taken : (f : Format) (control : ℕ) (kind : Arithmetic) (n m d bits : ℕ) → n < 2 * top f → m < 2 * top f → d < 2 * top f → control / 2 ^ 22 % 4 ≡ 0
+    → bits ≡ applied f kind n m d → Within f bits → Product f (accumulates kind) n m d → IsQuick f control kind n m d bits
+taken f control kind n m d bits N M D z e h p =
+    let q = native-quiet f control n m d N M D z kind p (subst (Within f) e h) in record { word = e ∙ sym (q .0); raises = q .1 }

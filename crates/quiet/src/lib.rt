@@ -1,1 +1,2 @@
-// Where a native result shows by its word that nothing was raised, or inexact alone: definitions and theorems. No code.
+// Where a native result shows by its word that nothing was raised, or inexact alone.
+pub mod quick;

@@ -3,9 +3,11 @@ ghost use mathlib.Core.Path.{_≡_};
 ghost use mathlib.Core.Bool.{true};
 ghost use Prim.Native.Nat.{_+_, _*_, _<_, _≤_};
 ghost use lib.ListN.{length, take, drop};
+ghost use Rattle.machine.specs.Place.{before};
 ghost use Rattle.limits.specs.Marks.{bitsOnly};
 ghost use Rattle.records.specs.Number.{numbersOf};
 ghost use Rattle.records.specs.Recorded.{wordOfMarks};
+use machine::place::WINDOW;
 use record_numbers::nth;
 
 // Whether so many numbers from one on are 0 or 1.
@@ -51,11 +53,11 @@ fn wide(x: u32) -> u64
 
 // The marks of the places before the window, from one on, in a word: bit p is the mark of place p.
 pub fn word(bytes: &[u8], from: usize) -> u64
-    requires { ⌜ (4 * (from + 52) ≤ length (now bytes)) × (bitsOnly (take 52 (drop from (numbersOf (now bytes)))) ≡ true) ⌝ }
-    ensures { λ r. ⌜ r ≡ wordOfMarks (take 52 (drop from (numbersOf (now (bytes .entry))))) ⌝ }
+    requires { ⌜ (4 * (from + before) ≤ length (now bytes)) × (bitsOnly (take before (drop from (numbersOf (now bytes)))) ≡ true) ⌝ }
+    ensures { λ r. ⌜ r ≡ wordOfMarks (take before (drop from (numbersOf (now (bytes .entry))))) ⌝ }
 {
     let mut w: u64 = 0;
-    let mut i: usize = 52;
+    let mut i: usize = WINDOW;
     while 0 < i {
         i -= 1;
         w = w * 2 + wide(nth(bytes, from + i));

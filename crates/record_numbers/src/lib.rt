@@ -1,4 +1,6 @@
 // The numbers of a record: 32 bits as bytes, little end first.
+pub mod count;
+
 ghost use mathlib.Core.Path.{_≡_};
 ghost use Prim.Native.Nat.{_+_, _*_, _<_, _≤_};
 ghost use lib.ListN.{length, getD, take, drop};

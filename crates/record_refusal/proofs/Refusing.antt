@@ -15,7 +15,7 @@ use Rattle.layout.proofs.Both.{fst, snd}
 use Rattle.layout.proofs.Words.{valid-facts}
 use Rattle.place_marks.specs.Word.{mapIn}
 use Rattle.records.specs.Number.{numbersOf}
-use Rattle.records.specs.Recorded.{ofBytes, sized}
+use Rattle.records.specs.Recorded.{layoutBit, listCount, ofBytes, sized}
 use Rattle.record_refusal.specs.Refusal.{fits, wellFormed, refusalOf, limitIn, Fitting, Accepted}
 use Rattle.record_refusal.proofs.Fields.{base-is, list-length, window-length, window-known-is, window-known-length, state-is, known-is}
 
@@ -23,24 +23,33 @@ use Rattle.record_refusal.proofs.Fields.{base-is, list-length, window-l
 
 pub short : (b : List ℕ) (words marks : ℕ) → length b < 12 → false ≡ fits b words marks
 unfolding fits sized
-short b words marks h = rw (ne-eqb (length b) (4 * (3 + 2 * getD (numbersOf b) 1 0 + getD (numbersOf b) 0 0)) (λ e. omega (arith, e)))
+short b words marks h =
+    rw (ne-eqb (length b) (4 * (3 + 2 * getD (numbersOf b) 1 0 + listCount (numbersOf b))) (λ e. omega (arith, e)), none (leb layoutBit (getD (numbersOf b) 0 0)))
+  where
+    none : (x : Bool) → (x && false) ≡ false
+    none true = refl
+    none false = refl
 
-module _ (b : List ℕ) (words marks n s : ℕ) (p : n ≡ getD (numbersOf b) 0 0) (q : s ≡ getD (numbersOf b) 1 0) where
+pub old : (b : List ℕ) (words marks : ℕ) → leb layoutBit (getD (numbersOf b) 0 0) ≡ false → false ≡ fits b words marks
+unfolding fits sized
+old b words marks h = rw h
+
+module _ (b : List ℕ) (words marks n s : ℕ) (t : leb layoutBit (getD (numbersOf b) 0 0) ≡ true) (p : n ≡ listCount (numbersOf b)) (q : s ≡ getD (numbersOf b) 1 0) where
   pub missized : (length b ≡ 4 * (3 + 2 * s + n) → ⊥) → false ≡ fits b words marks
   unfolding fits sized
-  missized e = rw (← p, ← q, ne-eqb (length b) (4 * (3 + 2 * s + n)) e)
+  missized e = rw (t, ← p, ← q, ne-eqb (length b) (4 * (3 + 2 * s + n)) e)
 
   pub few : length b ≡ 4 * (3 + 2 * s + n) → s < before → false ≡ fits b words marks
   unfolding fits sized
-  few e h = rw (← p, ← q, eq-eqb (length b) (4 * (3 + 2 * s + n)) e, lt-leb before s h)
+  few e h = rw (t, ← p, ← q, eq-eqb (length b) (4 * (3 + 2 * s + n)) e, lt-leb before s h)
 
   pub unlike : length b ≡ 4 * (3 + 2 * s + n) → before ≤ s → (words ≡ s - before → ⊥) → false ≡ fits b words marks
   unfolding fits sized
-  unlike e h k = rw (← p, ← q, eq-eqb (length b) (4 * (3 + 2 * s + n)) e, le-leb before s h, ne-eqb words (s - before) k)
+  unlike e h k = rw (t, ← p, ← q, eq-eqb (length b) (4 * (3 + 2 * s + n)) e, le-leb before s h, ne-eqb words (s - before) k)
 
   pub alike : length b ≡ 4 * (3 + 2 * s + n) → before ≤ s → words ≡ s - before → eqb marks (s - before) ≡ fits b words marks
   unfolding fits sized
-  alike e h k = rw (← p, ← q, eq-eqb (length b) (4 * (3 + 2 * s + n)) e, le-leb before s h, eq-eqb words (s - before) k)
+  alike e h k = rw (t, ← p, ← q, eq-eqb (length b) (4 * (3 + 2 * s + n)) e, le-leb before s h, eq-eqb words (s - before) k)
 
 -- ---- what fits
 
@@ -60,9 +69,9 @@ module _ (b : List ℕ) (words marks : ℕ) (e : fits b words marks ≡ true) wh
   stated-is : s ≡ before + words
   stated-is = omega (arith, leb-true before s (parts .1), eqb-true words (s - before) (fst (eqb words (s - before)) _ (parts .2)))
 
-  bytes-are : length b ≡ 4 * (3 + 2 * s + getD (numbersOf b) 0 0)
+  bytes-are : length b ≡ 4 * (3 + 2 * s + listCount (numbersOf b))
   unfolding sized
-  bytes-are = eqb-true (length b) (4 * (3 + 2 * s + getD (numbersOf b) 0 0)) (parts .0)
+  bytes-are = eqb-true (length b) (4 * (3 + 2 * s + listCount (numbersOf b))) (snd (leb layoutBit (getD (numbersOf b) 0 0)) _ (parts .0))
 
   pub fitting : Fitting b words
   fitting = record { stated = stated-is; bytes = omega (arith, bytes-are, stated-is) }
@@ -74,7 +83,7 @@ module _ (b : List ℕ) (words marks : ℕ) (e : fits b words marks ≡ true) wh
 
 module _ (b : List ℕ) (words : ℕ) (f : Fitting b words) where
   pub well-formed : wellFormed (ofBytes b)
-      ≡ (valid (take before (drop 2 (numbersOf b))) && bitsOnly (take before (drop (54 + words) (numbersOf b))))
+      ≡ (valid (take before (drop 2 (numbersOf b))) && bitsOnly (take before (drop (55 + words) (numbersOf b))))
   unfolding wellFormed
   well-formed = rw (state-is b words f, known-is b words f)
 
@@ -82,17 +91,17 @@ module _ (b : List ℕ) (words : ℕ) (f : Fitting b words) where
     pub formed-not : r ≡ false → false ≡ wellFormed (ofBytes b)
     formed-not e = rw (well-formed, ← p, ← q, e)
 
-    pub formed-is : r ≡ true → t ≡ bitsOnly (take before (drop (54 + words) (numbersOf b))) → t ≡ wellFormed (ofBytes b)
+    pub formed-is : r ≡ true → t ≡ bitsOnly (take before (drop (55 + words) (numbersOf b))) → t ≡ wellFormed (ofBytes b)
     formed-is e g = rw (well-formed, ← p, ← q, e, ← g)
 
   -- ---- 1 to 7
 
-  pub limit-is : (n base : ℕ) → n ≡ getD (numbersOf b) 0 0 → base ≡ getD (numbersOf b) (106 + 2 * words) 0
-      → watchLimit n base words false (take words (drop (106 + words) (numbersOf b))) ≡ limitIn (ofBytes b)
+  pub limit-is : (n base : ℕ) → n ≡ listCount (numbersOf b) → base ≡ getD (numbersOf b) (108 + 2 * words) 0
+      → watchLimit n base words false (take words (drop (108 + words) (numbersOf b))) ≡ limitIn (ofBytes b)
   unfolding decode mapIn
   limit-is n base p q = rw (list-length b words f, base-is b words f, window-length b words f, window-known-is b words f, p, q)
 
-  pub marks-are : length (take words (drop (106 + words) (numbersOf b))) ≡ words
+  pub marks-are : length (take words (drop (108 + words) (numbersOf b))) ≡ words
   marks-are = ap length (sym (window-known-is b words f)) ∙ window-known-length b words f
 
   -- ---- the machine
@@ -100,7 +109,7 @@ module _ (b : List ℕ) (words : ℕ) (f : Fitting b words) where
   module _ (state : List ℕ) (p : state ≡ take before (drop 2 (numbersOf b))) where
     pub valid-state : wellFormed (ofBytes b) ≡ true → Valid state
     valid-state e =
-        let g : (valid state && bitsOnly (take before (drop (54 + words) (numbersOf b)))) ≡ true = rw p (sym well-formed ∙ e) in
+        let g : (valid state && bitsOnly (take before (drop (55 + words) (numbersOf b)))) ≡ true = rw p (sym well-formed ∙ e) in
         valid-facts state (fst (valid state) _ g)
 
     pub decoded-state : decode false state ≡ decode false (take before (ofBytes b .values))

@@ -1,4 +1,4 @@
--- Which record is turned away (2026-03).
+-- Which record is turned away (2026-03, 2026-07).
 use Prim.Native.Nat.{ℕ, _+_, _-_, _*_}
 use mathlib.Core.Path.{_≡_}
 use mathlib.Core.Bool.{Bool, cond, true, false, _&&_}
@@ -12,7 +12,7 @@ use Rattle.limits.specs.Marks.{bitsOnly}
 use Rattle.layout.specs.State.{decode, valid}
 use Rattle.watch.specs.Watch.{limitOf}
 use Rattle.records.specs.Number.{numbersOf}
-use Rattle.records.specs.Recorded.{Recorded, ofBytes, sized, wordOfMarks}
+use Rattle.records.specs.Recorded.{Recorded, listCount, ofBytes, sized, wordOfMarks}
 
 -- the machine that a record holds, its Thumb bit clear, with its window, and the map
 abbrev pub stateIn : Recorded → State
@@ -25,7 +25,7 @@ mapOf x = mapIn (wordOfMarks (take before (x .marks))) (drop before (x .marks))
 abbrev pub limitIn : Recorded → ℕ
 limitIn x = limitOf (x .base) (x .list) (stateIn x) (mapOf x)
 
--- else 9: as many bytes as the sizes call for, no fewer state words than places before the window, and buffers of so many words and marks that are as
+-- else 9: bit 31 of the first number set, as many bytes as the sizes call for, no fewer state words than places before the window, and buffers of so many words and marks that are as
 -- long as the window
 unfoldable pub fits : List ℕ → ℕ → ℕ → Bool
 fits b words marks =
@@ -45,7 +45,7 @@ refusalOf b words marks =
 -- as facts: the counts of a record that fits a window of so many words
 pub record Fitting (b : List ℕ) (words : ℕ) : Type 0 where
   pub stated : getD (numbersOf b) 1 0 ≡ before + words
-  pub bytes : length b ≡ 4 * (3 + 2 * (before + words) + getD (numbersOf b) 0 0)
+  pub bytes : length b ≡ 4 * (3 + 2 * (before + words) + listCount (numbersOf b))
 
 -- and of a record that is not refused
 pub record Accepted (b : List ℕ) (words : ℕ) : Type 0 where

@@ -1,9 +1,7 @@
 // Where the fields of a record stand among its numbers.
 use machine::place::WINDOW;
 
-// The count of instruction words, and that of state words.
-pub const LIST_COUNT: usize = 0;
-
+// The count of state words; before it stands that of instruction words (record_numbers::count).
 pub const STATE_COUNT: usize = 1;
 
 // The values of the places before the window, and of the window.

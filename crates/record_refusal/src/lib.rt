@@ -9,6 +9,8 @@ use layout::state::is_valid;
 use limits::limit::run_limit;
 use machine::place::WINDOW;
 use record_marks::bits_only;
+use record_numbers::count::is_current;
+use record_numbers::count::list_count;
 use record_numbers::fill;
 use record_numbers::nth;
 
@@ -18,7 +20,7 @@ fn index(x: u32) -> usize
     x as usize
 }
 
-// Whether the sizes agree: those of the bytes, of the state, and of lent buffers of so many words and marks.
+// Whether bit 31 of the first number is set, and the sizes agree: those of the bytes, of the state, and of lent buffers of so many words and marks.
 fn fits(bytes: &[u8], words: usize, marks: usize) -> bool
     ensures { λ r. ⌜ r ≡ fits (now (bytes .entry)) words marks ⌝ }
 {
@@ -26,7 +28,10 @@ fn fits(bytes: &[u8], words: usize, marks: usize) -> bool
     if bytes.len() < 12 {
         return false;
     }
-    let list = index(nth(bytes, field::LIST_COUNT));
+    if !is_current(bytes) {
+        return false;
+    }
+    let list = list_count(bytes);
     let stated = index(nth(bytes, field::STATE_COUNT));
     if bytes.len() != 4 * (3 + 2 * stated + list) {
         return false;
@@ -58,7 +63,7 @@ fn limit(bytes: &[u8], words: usize) -> u8
     requires { ⌜ Fitting (now bytes) words ⌝ }
     ensures { λ n. ⌜ n ≡ limitIn (ofBytes (now (bytes .entry))) ⌝ }
 {
-    let list = index(nth(bytes, field::LIST_COUNT));
+    let list = list_count(bytes);
     let base = nth(bytes, field::BASE + 2 * words);
     let n = run_limit(list, base, words, false);
     if n != 0 {

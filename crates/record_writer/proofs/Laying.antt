@@ -6,9 +6,10 @@ use mathlib.Core.Path.{_≡_, refl, ap, sym, _∙_}
 use mathlib.Core.List.{List, [], _∷_, _++_, append-assoc, append-nil}
 use lib.ListN.{length, length-append, getD, set, take, drop, take-append-drop}
 use lib.Seq.{sets-eq, take-at, drop-at, drop-drop, take-suc, take-all, length-take-le}
+use Rattle.machine.specs.Place.{before}
 use Rattle.limits.specs.Marks.{bytesOf}
 use Rattle.records.specs.Number.{written, laid}
-use Rattle.records.specs.Recorded.{Recorded, numbersFor, toBytes, marksOfWord, recordOf, Fits, Wrote}
+use Rattle.records.specs.Recorded.{Recorded, layoutBit, numbersFor, toBytes, marksOfWord, recordOf, Fits, Wrote}
 use Rattle.records.proofs.Written.{written-length}
 use Rattle.records.proofs.MarkWords.{marks-length}
 use Rattle.records.proofs.Small.{stated-is}
@@ -97,29 +98,29 @@ module _ (state window marks list to : List ℕ) (m base : ℕ) (f : Fits state 
   abbrev x : Recorded
   x = recordOf state m window marks base list
 
-  stated-words : length (state ++ window) ≡ 52 + length window
+  stated-words : length (state ++ window) ≡ before + length window
   stated-words = stated-is state window marks list m base (f .places) (f .marked)
 
   -- its bytes in their pieces
-  pieces : (n s : ℕ) → n ≡ length list → s ≡ 52 + length window
-      → bytesOf 4 n ++ bytesOf 4 s ++ written state ++ written window ++ written (marksOfWord 52 m) ++ written marks ++ bytesOf 4 base ++ written list
+  pieces : (n s : ℕ) → n ≡ layoutBit + length list → s ≡ before + length window
+      → bytesOf 4 n ++ bytesOf 4 s ++ written state ++ written window ++ written (marksOfWord before m) ++ written marks ++ bytesOf 4 base ++ written list
       ≡ toBytes x
   unfolding numbersFor written
   pieces n s p q = rw (p, q, stated-words) (simp (written-append, append-assoc))
 
-  pub wrote : (n s r₁ r₂ r₃ r₄ r₅ r₆ r₇ r₈ : ℕ) (t₁ t₂ t₃ t₄ t₅ t₆ t₇ t₈ : List ℕ) → n ≡ length list → s ≡ 52 + length window
+  pub wrote : (n s r₁ r₂ r₃ r₄ r₅ r₆ r₇ r₈ : ℕ) (t₁ t₂ t₃ t₄ t₅ t₆ t₇ t₈ : List ℕ) → n ≡ layoutBit + length list → s ≡ before + length window
       → (r₁ ≡ 0 + 4) × (t₁ ≡ laid to 0 (bytesOf 4 n))
       → (r₂ ≡ r₁ + 4) × (t₂ ≡ laid t₁ r₁ (bytesOf 4 s))
       → (r₃ ≡ r₂ + 4 * length state) × (t₃ ≡ laid t₂ r₂ (written state))
       → (r₄ ≡ r₃ + 4 * length window) × (t₄ ≡ laid t₃ r₃ (written window))
-      → (r₅ ≡ r₄ + 208) × (t₅ ≡ laid t₄ r₄ (written (marksOfWord 52 m)))
+      → (r₅ ≡ r₄ + 4 * before) × (t₅ ≡ laid t₄ r₄ (written (marksOfWord before m)))
       → (r₆ ≡ r₅ + 4 * length marks) × (t₆ ≡ laid t₅ r₅ (written marks))
       → (r₇ ≡ r₆ + 4) × (t₇ ≡ laid t₆ r₆ (bytesOf 4 base))
       → (r₈ ≡ r₇ + 4 * length list) × (t₈ ≡ laid t₇ r₇ (written list))
       → Wrote x to r₈ t₈
   wrote n s r₁ r₂ r₃ r₄ r₅ r₆ r₇ r₈ t₁ t₂ t₃ t₄ t₅ t₆ t₇ t₈ p q e₁ e₂ e₃ e₄ e₅ e₆ e₇ e₈ =
       let h = f .room in
-      let k₈ : r₈ ≡ 4 * (3 + 2 * (52 + length window) + length list) =
+      let k₈ : r₈ ≡ 4 * (3 + 2 * (before + length window) + length list) =
       omega (arith, f .places, f .marked, e₁ .0, e₂ .0, e₃ .0, e₄ .0, e₅ .0, e₆ .0, e₇ .0, e₈ .0)
       in
       let k₇ : r₇ ≤ length to = omega (arith, h, k₈, e₈ .0) in
@@ -131,15 +132,15 @@ module _ (state window marks list to : List ℕ) (m base : ℕ) (f : Fits state 
       let a₂ = bytesOf 4 n ++ bytesOf 4 s in
       let a₃ = a₂ ++ written state in
       let a₄ = a₃ ++ written window in
-      let a₅ = a₄ ++ written (marksOfWord 52 m) in
+      let a₅ = a₄ ++ written (marksOfWord before m) in
       let a₆ = a₅ ++ written marks in
       let a₇ = a₆ ++ bytesOf 4 base in
-      let l₅ : length (written (marksOfWord 52 m)) ≡ 208 = written-length (marksOfWord 52 m) ∙ ap (λ (i : ℕ). 4 * i) (marks-length 52 m) in
+      let l₅ : length (written (marksOfWord before m)) ≡ 4 * before = written-length (marksOfWord before m) ∙ ap (λ (i : ℕ). 4 * i) (marks-length before m) in
       let d₁ : Laid to (bytesOf 4 n) r₁ t₁ = (e₁ .0 ∙ ap (λ (i : ℕ). 0 + i) (sym (four-length n)), e₁ .1) in
       let d₂ = more to (bytesOf 4 n) (bytesOf 4 s) t₁ t₂ r₁ r₂ 4 (four-length s) k₂ d₁ e₂ in
       let d₃ = more to a₂ (written state) t₂ t₃ r₂ r₃ (4 * length state) (written-length state) k₃ d₂ e₃ in
       let d₄ = more to a₃ (written window) t₃ t₄ r₃ r₄ (4 * length window) (written-length window) k₄ d₃ e₄ in
-      let d₅ = more to a₄ (written (marksOfWord 52 m)) t₄ t₅ r₄ r₅ 208 l₅ k₅ d₄ e₅ in
+      let d₅ = more to a₄ (written (marksOfWord before m)) t₄ t₅ r₄ r₅ (4 * before) l₅ k₅ d₄ e₅ in
       let d₆ = more to a₅ (written marks) t₅ t₆ r₅ r₆ (4 * length marks) (written-length marks) k₆ d₅ e₆ in
       let d₇ = more to a₆ (bytesOf 4 base) t₆ t₇ r₆ r₇ 4 (four-length base) k₇ d₆ e₇ in
       let d₈ = more to a₇ (written list) t₇ t₈ r₇ r₈ (4 * length list) (written-length list) (omega (arith, h, k₈)) d₇ e₈ in

@@ -2,12 +2,12 @@
 ghost use mathlib.Core.Path.{_≡_};
 ghost use Prim.Native.Nat.{_+_, _*_, _%_, _^_, _<_, _≤_};
 ghost use lib.ListN.{length};
+ghost use Rattle.machine.specs.Place.{before};
 ghost use Rattle.limits.specs.Marks.{bytesOf};
 ghost use Rattle.records.specs.Number.{written, laid};
 ghost use Rattle.records.specs.Recorded.{marksOfWord, recordOf, Fits, Wrote};
-
-// The places before the window.
-const PLACES: usize = 52;
+use machine::place::WINDOW;
+use record_numbers::count::LAYOUT_BIT;
 
 fn low_byte(x: u32) -> u8
     ensures { λ r. ⌜ r ≡ x % 256 ⌝ }
@@ -69,13 +69,13 @@ fn low_bit(x: u64) -> u32
 
 // Writes the marks of the places before the window: bit p of a word as number p.
 pub fn put_word_marks(to: &mut [u8], at: usize, marks: u64) -> usize
-    requires { ⌜ at + 208 ≤ length (now to) ⌝ }
-    ensures { λ r. ⌜ (r ≡ at + 208) × (now (to .exit) ≡ laid (now (to .entry)) at (written (marksOfWord 52 marks))) ⌝ }
+    requires { ⌜ at + 4 * before ≤ length (now to) ⌝ }
+    ensures { λ r. ⌜ (r ≡ at + 4 * before) × (now (to .exit) ≡ laid (now (to .entry)) at (written (marksOfWord before marks))) ⌝ }
 {
     let mut next = at;
     let mut rest = marks;
     let mut i: usize = 0;
-    while i < PLACES {
+    while i < WINDOW {
         next = put_number(to, next, low_bit(rest));
         rest /= 2;
         i += 1;
@@ -105,8 +105,8 @@ pub fn write(
     ensures { λ n. ⌜ Wrote (recordOf (now (state .entry)) marks (now (window .entry)) (now («window_marks» .entry)) base (now (list .entry)))
         (now (to .entry)) n (now (to .exit)) ⌝ }
 {
-    let at = put_number(to, 0, count(list.len()));
-    let at = put_number(to, at, count(PLACES + window.len()));
+    let at = put_number(to, 0, LAYOUT_BIT + count(list.len()));
+    let at = put_number(to, at, count(WINDOW + window.len()));
     let at = put_numbers(to, at, state);
     let at = put_numbers(to, at, window);
     let at = put_word_marks(to, at, marks);

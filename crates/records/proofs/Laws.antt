@@ -56,7 +56,7 @@ module _ (b : List ℕ) (from n : ℕ) (h : 4 * (from + n) ≤ length b) where
   pub part-at : (i : ℕ) → i < n → getD (take n (drop from (numbersOf b))) i 0 ≡ getD (numbersOf b) (from + i) 0
   part-at i k = getD-take n (drop from (numbersOf b)) i 0 k ∙ getD-drop from (numbersOf b) i 0
 
--- one more of them; the laws of a machine's words (crate layout) stand above this crate
+-- one more of them
 pub one-more : (l p : List ℕ) (i x : ℕ) → i < length l → i < length p → x ≡ getD p i 0 → take i l ≡ take i p
     → take (i + 1) (set l i x) ≡ take (i + 1) p
 one-more l p i x h k z e = rw (z, add-one i, take-suc-set l i (getD p i 0) h, take-suc p i 0 k, e)

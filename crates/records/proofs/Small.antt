@@ -6,8 +6,9 @@ use mathlib.Core.Path.{_≡_, ap, sym, _∙_}
 use mathlib.Core.List.{List, [], _∷_, _++_}
 use lib.ListN.{length, length-append, getD, take, drop, List·getD-eq-default}
 use lib.Seq.{getD-drop}
+use Rattle.machine.specs.Place.{before}
 use Rattle.records.specs.Number.{numberAt, numbersOf}
-use Rattle.records.specs.Recorded.{numbersFor, marksOfWord, recordOf, Writable}
+use Rattle.records.specs.Recorded.{layoutBit, numbersFor, marksOfWord, recordOf, Writable}
 use Rattle.records.proofs.Laws.{numbers-length, number-nth}
 use Rattle.records.proofs.MarkWords.{marks-length}
 
@@ -42,15 +43,15 @@ below-marks (suc n) w (suc i) = below-marks n (w / 2) i
 
 -- ---- a record's parts
 
-module _ (state window marks list : List ℕ) (m base : ℕ) (places : length state ≡ 52) (marked : length marks ≡ length window) where
-  pub stated-is : length (state ++ window) ≡ 52 + length window
+module _ (state window marks list : List ℕ) (m base : ℕ) (places : length state ≡ before) (marked : length marks ≡ length window) where
+  pub stated-is : length (state ++ window) ≡ before + length window
   stated-is = length-append state window ∙ ap (λ (n : ℕ). n + length window) places
 
-  pub marks-are : length (marksOfWord 52 m ++ marks) ≡ 52 + length window
-  marks-are = length-append (marksOfWord 52 m) marks ∙ (omega (arith, marks-length 52 m))
+  pub marks-are : length (marksOfWord before m ++ marks) ≡ before + length window
+  marks-are = length-append (marksOfWord before m) marks ∙ (omega (arith, marks-length before m))
 
   abbrev known : List ℕ
-  known = marksOfWord 52 m ++ marks
+  known = marksOfWord before m ++ marks
 
   abbrev after-values : List ℕ
   after-values = known ++ (base ∷ list)
@@ -58,12 +59,12 @@ module _ (state window marks list : List ℕ) (m base : ℕ) (places : length st
   abbrev after-counts : List ℕ
   after-counts = (state ++ window) ++ after-values
 
-  pub writable : Below (2 ^ 32) state → Below (2 ^ 32) window → Below (2 ^ 32) marks → base < 2 ^ 32 → Below (2 ^ 32) list → length list < 2 ^ 32
-      → 52 + length window < 2 ^ 32 → Writable (recordOf state m window marks base list)
+  pub writable : Below (2 ^ 32) state → Below (2 ^ 32) window → Below (2 ^ 32) marks → base < 2 ^ 32 → Below (2 ^ 32) list → length list < layoutBit
+      → before + length window < 2 ^ 32 → Writable (recordOf state m window marks base list)
   unfolding numbersFor
   writable a b c d e f g =
       let s : length (state ++ window) < 2 ^ 32 = rw stated-is g in
-      let p₁ = below-append (2 ^ 32) (marksOfWord 52 m) marks (below-marks 52 m) c in
+      let p₁ = below-append (2 ^ 32) (marksOfWord before m) marks (below-marks before m) c in
       let p₂ = below-append (2 ^ 32) known (base ∷ list) p₁ (below-cons (2 ^ 32) base list d e) in
       let p₃ = below-append (2 ^ 32) (state ++ window) after-values (below-append (2 ^ 32) state window a b) p₂ in
       let p₄ = below-cons (2 ^ 32) (length (state ++ window)) after-counts s p₃ in
@@ -71,7 +72,7 @@ module _ (state window marks list : List ℕ) (m base : ℕ) (places : length st
         marked = marks-are ∙ sym stated-is;
         listed = f;
         stated = s;
-        numbers = below-cons (2 ^ 32) (length list) (length (state ++ window) ∷ after-counts) f p₄;
+        numbers = below-cons (2 ^ 32) (layoutBit + length list) (length (state ++ window) ∷ after-counts) (omega (arith, f)) p₄;
       }
 
 -- ---- bytes

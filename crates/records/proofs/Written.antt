@@ -1,16 +1,19 @@
 -- What is written is read back, and what is read is written back: numbers as bytes, and a record's fields as numbers.
-use Prim.Native.Nat.{ℕ, zero, suc, _+_, _-_, _*_, _/_, _%_, _^_, _<_}
+use Prim.Native.Nat.{ℕ, zero, suc, _+_, _-_, _*_, _/_, _%_, _^_, _<_, _≤_}
 use native.Mathlib.Omega.{arith}
 use mathlib.Core.Path.{_≡_, refl, ap, sym, _∙_}
 use mathlib.Core.Bool.{true}
 use mathlib.Core.List.{List, [], _∷_, _++_}
+use lib.Dec.{leb}
 use lib.ListN.{length, length-append, length-drop, getD, take, drop, take-append-drop}
 use lib.Seq.{drop-cons, getD-drop, drop-drop, take-at, drop-at, take-all, length-take-le}
-use borrow.Author.Tests.{eqb-true, eq-eqb}
+use borrow.Author.Tests.{eqb-true, eq-eqb, leb-true, le-leb}
 use Rattle.limits.specs.Marks.{bytesOf}
+use Rattle.layout.proofs.Both.{fst, snd}
 use Rattle.records.specs.Number.{firstNumbers, numbersOf, written}
-use Rattle.records.specs.Recorded.{Recorded, numbersFor, recordedIn, toBytes, ofBytes, sized, Writable}
+use Rattle.records.specs.Recorded.{Recorded, layoutBit, listCount, numbersFor, recordedIn, toBytes, ofBytes, sized, Writable}
 use Rattle.records.proofs.Laws.{numbers-length}
+use Rattle.records.proofs.Small.{numbers-below}
 
 -- ---- numbers as bytes
 
@@ -67,7 +70,7 @@ written-numbers b n h small =
 
 -- ---- fields as numbers
 
-module _ (x : Recorded) (h : length (x .marks) ≡ length (x .values)) where
+module _ (x : Recorded) (h : length (x .marks) ≡ length (x .values)) (few : length (x .list) < layoutBit) where
   abbrev l : List ℕ
   l = numbersFor x
 
@@ -96,9 +99,12 @@ module _ (x : Recorded) (h : length (x .marks) ≡ length (x .values)) where
       let e : 2 + 2 * words + 1 ≡ 3 + 2 * words = omega arith in
       ap (λ (n : ℕ). drop n l) (sym e) ∙ (sym (drop-drop 1 (2 + 2 * words) l) ∙ ap (drop 1) from-base)
 
-  pub counted : getD l 0 0 ≡ length (x .list)
+  pub first : getD l 0 0 ≡ layoutBit + length (x .list)
   unfolding numbersFor
-  counted = refl
+  first = refl
+
+  pub counted : listCount l ≡ length (x .list)
+  counted = rw first (omega arith)
 
   pub stated : getD l 1 0 ≡ words
   unfolding numbersFor
@@ -113,20 +119,20 @@ module _ (x : Recorded) (h : length (x .marks) ≡ length (x .values)) where
       let e₃ = take-all (length (x .list)) (x .list) (omega arith) in
       rw (counted, stated, from-values, from-marks, base-there, from-list, e₁, e₂, e₃)
 
-module _ (l : List ℕ) (h : length l ≡ 3 + 2 * getD l 1 0 + getD l 0 0) where
+module _ (l : List ℕ) (h : length l ≡ 3 + 2 * getD l 1 0 + listCount l) (bit : getD l 0 0 ≡ layoutBit + listCount l) where
   abbrev stated-words : ℕ
   stated-words = getD l 1 0
 
-  rest-length : (n : ℕ) → length (drop n l) ≡ 3 + 2 * stated-words + getD l 0 0 - n
+  rest-length : (n : ℕ) → length (drop n l) ≡ 3 + 2 * stated-words + listCount l - n
   rest-length n = length-drop n l ∙ ap (λ (k : ℕ). k - n) h
 
   values-length : length (take stated-words (drop 2 l)) ≡ stated-words
   values-length = length-take-le stated-words (drop 2 l) (rw (rest-length 2) (omega arith))
 
-  all-list : take (getD l 0 0) (drop (3 + 2 * stated-words) l) ≡ drop (3 + 2 * stated-words) l
-  all-list = take-all (getD l 0 0) (drop (3 + 2 * stated-words) l) (rw (rest-length (3 + 2 * stated-words)) (omega arith))
+  all-list : take (listCount l) (drop (3 + 2 * stated-words) l) ≡ drop (3 + 2 * stated-words) l
+  all-list = take-all (listCount l) (drop (3 + 2 * stated-words) l) (rw (rest-length (3 + 2 * stated-words)) (omega arith))
 
-  list-length : length (drop (3 + 2 * stated-words) l) ≡ getD l 0 0
+  list-length : length (drop (3 + 2 * stated-words) l) ≡ listCount l
   list-length = rest-length (3 + 2 * stated-words) ∙ (omega arith)
 
   base-first : getD l (2 + 2 * stated-words) 0 ∷ drop (3 + 2 * stated-words) l ≡ drop (2 + 2 * stated-words) l
@@ -149,13 +155,13 @@ module _ (l : List ℕ) (h : length l ≡ 3 + 2 * getD l 1 0 + getD l 0 0) where
   -- numbers are those of what they record
   pub numbers-recorded : numbersFor (recordedIn l) ≡ l
   unfolding numbersFor recordedIn
-  numbers-recorded = rw (all-list, list-length, values-length, base-first, marks-first, values-first) counts-first
+  numbers-recorded = rw (all-list, list-length, values-length, base-first, marks-first, values-first, ← bit) counts-first
 
 -- ---- both ways
 
 -- a record is what its bytes record
 pub read-back : (x : Recorded) → Writable x → ofBytes (toBytes x) ≡ x
-read-back x w = rw (numbers-written (numbersFor x) (w .numbers)) (recorded-numbers x (w .marked))
+read-back x w = rw (numbers-written (numbersFor x) (w .numbers)) (recorded-numbers x (w .marked) (w .listed))
 
 -- and has as many bytes as its counts call for
 numbers-count : (x : Recorded) → length (x .marks) ≡ length (x .values) → length (numbersFor x) ≡ 3 + 2 * length (x .values) + length (x .list)
@@ -168,14 +174,18 @@ written-sized x w =
     let e : length (toBytes x) ≡ 4 * (3 + 2 * length (x .values) + length (x .list)) =
     written-length (numbersFor x) ∙ ap (λ (n : ℕ). 4 * n) (numbers-count x (w .marked))
     in
-    rw (numbers-written (numbersFor x) (w .numbers), counted x (w .marked), stated x (w .marked)) (eq-eqb _ _ e)
+    let f = first x (w .marked) (w .listed) in
+    let b : leb layoutBit (layoutBit + length (x .list)) ≡ true = le-leb layoutBit (layoutBit + length (x .list)) (omega arith) in
+    rw (numbers-written (numbersFor x) (w .numbers), counted x (w .marked) (w .listed), stated x (w .marked) (w .listed), f, b) (eq-eqb _ _ e)
 
 -- and bytes, as many as the counts call for, are those of what they record
 pub written-back : (b : List ℕ) → sized b ≡ true → ((n : ℕ) → getD b n 0 < 256) → toBytes (ofBytes b) ≡ b
 unfolding sized
 written-back b e small =
     let l = numbersOf b in
-    let n = 3 + 2 * getD l 1 0 + getD l 0 0 in
-    let h : length b ≡ 4 * n = eqb-true (length b) (4 * n) e in
+    let n = 3 + 2 * getD l 1 0 + listCount l in
+    let h : length b ≡ 4 * n = eqb-true (length b) (4 * n) (snd (leb layoutBit (getD l 0 0)) _ e) in
+    let t : layoutBit ≤ getD l 0 0 = leb-true layoutBit (getD l 0 0) (fst (leb layoutBit (getD l 0 0)) _ e) in
+    let bit : getD l 0 0 ≡ layoutBit + listCount l = omega (arith, t, numbers-below b small 0) in
     let k : length l ≡ n = numbers-length b ∙ (omega (arith, h)) in
-    rw (numbers-recorded l k) (written-numbers b n h small)
+    rw (numbers-recorded l k bit) (written-numbers b n h small)

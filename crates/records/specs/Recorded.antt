@@ -1,11 +1,12 @@
 -- A recorded cycle (2026-03): the count of instruction words and that of state words, the values of the state words, their marks, the base and the
--- instruction words.
+-- instruction words. Bit 31 of the first number is set and no part of the count (2026-07): records of 52 places have it clear.
 use Prim.Native.Nat.{ℕ, zero, suc, _+_, _*_, _/_, _%_, _^_, _<_, _≤_}
 use mathlib.Core.Path.{_≡_}
-use mathlib.Core.Bool.{Bool}
+use mathlib.Core.Bool.{Bool, _&&_}
 use mathlib.Core.List.{List, [], _∷_, _++_}
-use lib.Dec.{eqb}
+use lib.Dec.{eqb, leb}
 use lib.ListN.{length, getD, take, drop}
+use Rattle.machine.specs.Place.{before}
 use Rattle.records.specs.Number.{numbersOf, written}
 
 pub record Recorded : Type 0 where
@@ -14,9 +15,16 @@ pub record Recorded : Type 0 where
   pub base : ℕ
   pub list : List ℕ
 
+-- the bit that is set in the first number, and the count of instruction words without it
+abbrev pub layoutBit : ℕ
+layoutBit = 2 ^ 31
+
+abbrev pub listCount : List ℕ → ℕ
+listCount l = getD l 0 0 % layoutBit
+
 -- its numbers
 unfoldable pub numbersFor : Recorded → List ℕ
-numbersFor x = length (x .list) ∷ length (x .values) ∷ (x .values ++ (x .marks ++ (x .base ∷ x .list)))
+numbersFor x = (layoutBit + length (x .list)) ∷ length (x .values) ∷ (x .values ++ (x .marks ++ (x .base ∷ x .list)))
 
 -- and what numbers record
 unfoldable pub recordedIn : List ℕ → Recorded
@@ -26,7 +34,7 @@ recordedIn l =
       values = take words (drop 2 l);
       marks = take words (drop (2 + words) l);
       base = getD l (2 + 2 * words) 0;
-      list = take (getD l 0 0) (drop (3 + 2 * words) l);
+      list = take (listCount l) (drop (3 + 2 * words) l);
     }
 
 -- the bytes of a record, and what bytes record
@@ -36,14 +44,14 @@ toBytes x = written (numbersFor x)
 abbrev pub ofBytes : List ℕ → Recorded
 ofBytes b = recordedIn (numbersOf b)
 
--- whether there are as many bytes as the two counts call for
+-- whether that bit is set, and there are as many bytes as the two counts call for
 unfoldable pub sized : List ℕ → Bool
-sized b = let l = numbersOf b in eqb (length b) (4 * (3 + 2 * getD l 1 0 + getD l 0 0))
+sized b = let l = numbersOf b in leb layoutBit (getD l 0 0) && eqb (length b) (4 * (3 + 2 * getD l 1 0 + listCount l))
 
--- a record that can be written: as many marks as values, and every number of 32 bits
+-- a record that can be written: as many marks as values, a count that leaves bit 31 free, and every number of 32 bits
 pub record Writable (x : Recorded) : Type 0 where
   pub marked : length (x .marks) ≡ length (x .values)
-  pub listed : length (x .list) < 2 ^ 32
+  pub listed : length (x .list) < layoutBit
   pub stated : length (x .values) < 2 ^ 32
   pub numbers : (n : ℕ) → getD (numbersFor x) n 0 < 2 ^ 32
 
@@ -59,15 +67,15 @@ marksOfWord (suc n) w = w % 2 ∷ marksOfWord n (w / 2)
 
 -- the record of a state's words, the word of their marks, a window with its marks, a base and a list
 abbrev pub recordOf : List ℕ → ℕ → List ℕ → List ℕ → ℕ → List ℕ → Recorded
-recordOf state m window marks base list = record { values = state ++ window; marks = marksOfWord 52 m ++ marks; base = base; list = list }
+recordOf state m window marks base list = record { values = state ++ window; marks = marksOfWord before m ++ marks; base = base; list = list }
 
--- what the writer asks of them and of the buffer: as many of each as there should be, counts of 32 bits, and room
+-- what the writer asks of them and of the buffer: as many of each as there should be, counts of 31 and 32 bits, and room
 pub record Fits (state window marks list to : List ℕ) : Type 0 where
-  pub places : length state ≡ 52
+  pub places : length state ≡ before
   pub marked : length marks ≡ length window
-  pub stated : 52 + length window < 2 ^ 32
-  pub listed : length list < 2 ^ 32
-  pub room : 4 * (3 + 2 * (52 + length window) + length list) ≤ length to
+  pub stated : before + length window < 2 ^ 32
+  pub listed : length list < layoutBit
+  pub room : 4 * (3 + 2 * (before + length window) + length list) ≤ length to
 
 -- what it gives: the count of bytes, and the buffer with the record's bytes at its start, as it was past them
 pub record Wrote (x : Recorded) (to : List ℕ) (n : ℕ) (now : List ℕ) : Type 0 where

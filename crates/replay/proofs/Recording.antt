@@ -20,7 +20,7 @@ use Rattle.place_marks.proofs.Word.{same-map}
 use Rattle.watch.specs.Watch.{Reply, limitOf, watchReply}
 use Rattle.meaning.specs.Map.{Map}
 use Rattle.records.specs.Number.{numbersOf}
-use Rattle.records.specs.Recorded.{Recorded, numbersFor, recordedIn, toBytes, ofBytes, wordOfMarks, marksOfWord, recordOf, Writable}
+use Rattle.records.specs.Recorded.{Recorded, listCount, numbersFor, recordedIn, toBytes, ofBytes, wordOfMarks, marksOfWord, recordOf, Writable}
 use Rattle.records.proofs.Written.{numbers-written, read-back, written-sized, written-back, stated}
 use Rattle.records.proofs.MarkWords.{word-of-marks, marks-of-word, marks-length, marks-bits}
 use Rattle.records.proofs.Small.{Below, below-take, below-drop, writable, stated-is, numbers-below}
@@ -35,7 +35,7 @@ use Rattle.record_refusal.proofs.Refusing.{limited, accepted, accepted-size}
 valid-test : (l : List ℕ) → Valid l → valid l ≡ true
 unfolding valid
 valid-test l v =
-    rw (eq-eqb _ _ (v .words), eq-eqb _ _ (v .flags-only), lt-ltb _ _ (v .control-only), eq-eqb _ _ (v .nzcv-only))
+    rw (eq-eqb _ _ (v .words), eq-eqb _ _ (v .flags-only), eq-eqb _ _ (v .control-only), eq-eqb _ _ (v .nzcv-only), lt-ltb _ _ (v .exceptions-only))
 
 module _ (x : Cycle) (r : Recordable x) where
   abbrev y : Recorded
@@ -59,17 +59,17 @@ module _ (x : Cycle) (r : Recordable x) where
   values-rest : drop before (encode (x .machine) ++ x .window) ≡ x .window
   values-rest = drop-at (encode (x .machine)) (x .window) before places
 
-  marks-first : take before (marksOfWord 52 (x .known) ++ x .marks) ≡ marksOfWord 52 (x .known)
-  marks-first = take-at (marksOfWord 52 (x .known)) (x .marks) before (marks-length 52 (x .known))
+  marks-first : take before (marksOfWord before (x .known) ++ x .marks) ≡ marksOfWord before (x .known)
+  marks-first = take-at (marksOfWord before (x .known)) (x .marks) before (marks-length before (x .known))
 
-  marks-rest : drop before (marksOfWord 52 (x .known) ++ x .marks) ≡ x .marks
-  marks-rest = drop-at (marksOfWord 52 (x .known)) (x .marks) before (marks-length 52 (x .known))
+  marks-rest : drop before (marksOfWord before (x .known) ++ x .marks) ≡ x .marks
+  marks-rest = drop-at (marksOfWord before (x .known)) (x .marks) before (marks-length before (x .known))
 
   machine-back : decode false (encode (x .machine)) ≡ x .machine
   machine-back = ap (λ (t : _). decode t (encode (x .machine))) (sym (r .arm)) ∙ decode-encode (x .machine) (r .sized)
 
   pub read-back-cycle : ReadBack x
-  read-back-cycle = rw (read, values-first, values-rest, marks-first, marks-rest, machine-back, word-of-marks 52 (x .known))
+  read-back-cycle = rw (read, values-first, values-rest, marks-first, marks-rest, machine-back, word-of-marks before (x .known))
 
   map-back : mapIn (x .known % 2 ^ before) (x .marks) ≡ mapIn (x .known) (x .marks)
   map-back = same-map (x .known % 2 ^ before) (x .known) (x .marks) (mod-mod (x .known) (2 ^ before))
@@ -88,7 +88,7 @@ module _ (x : Cycle) (r : Recordable x) where
   words-is : getD (numbersOf (bytesFor x)) 1 0 ≡ before + length (x .window)
   words-is =
       ap (λ (l : List ℕ). getD l 1 0) (numbers-written (numbersFor y) (can .numbers))
-      ∙ (stated y (can .marked) ∙ stated-is (encode (x .machine)) (x .window) (x .marks) (x .list) (x .known) (x .base) places (r .marked))
+      ∙ (stated y (can .marked) (can .listed) ∙ stated-is (encode (x .machine)) (x .window) (x .marks) (x .list) (x .known) (x .base) places (r .marked))
 
   fitted : (words marks : ℕ) → words ≡ length (x .window) → marks ≡ length (x .window) → fits (bytesFor x) words marks ≡ true
   unfolding fits
@@ -101,7 +101,7 @@ module _ (x : Cycle) (r : Recordable x) where
 
   formed : wellFormed (ofBytes (bytesFor x)) ≡ true
   unfolding wellFormed
-  formed = rw (read, values-first, marks-first, valid-test (encode (x .machine)) (valid-encode (x .machine) (r .sized)), marks-bits 52 (x .known))
+  formed = rw (read, values-first, marks-first, valid-test (encode (x .machine)) (valid-encode (x .machine) (r .sized)), marks-bits before (x .known))
 
   limit-back : limitIn (ofBytes (bytesFor x)) ≡ limitFor x
   limit-back = ap limitFor read-back-cycle ∙ ap (λ (μ : Map). limitOf (x .base) (x .list) (startOf x) μ) map-back
@@ -149,7 +149,7 @@ module _ (b : List ℕ) (small : Below 256 b) (words marks : ℕ) (e : refusalOf
 
   list-below : Below (2 ^ 32) (z .list)
   unfolding recordedIn
-  list-below = part-below (getD l 0 0) (3 + 2 * getD l 1 0)
+  list-below = part-below (listCount l) (3 + 2 * getD l 1 0)
 
   valid-words : Valid (take before (z .values))
   unfolding wellFormed
@@ -160,12 +160,12 @@ module _ (b : List ℕ) (small : Below 256 b) (words marks : ℕ) (e : refusalOf
   known-bits = snd (valid (take before (z .values))) _ (accepted b words marks e .formed)
 
   known-length : length (take before (z .marks)) ≡ before
-  known-length = ap length (known-is b words f) ∙ part b words f (54 + words) before (omega (arith, numbers-there b words f))
+  known-length = ap length (known-is b words f) ∙ part b words f (55 + words) before (omega (arith, numbers-there b words f))
 
   machine-words : encode (decode false (take before (z .values))) ≡ take before (z .values)
   machine-words = encode-decode false (take before (z .values)) valid-words (below-take (2 ^ 32) before (z .values) values-below 51)
 
-  known-marks : marksOfWord 52 (wordOfMarks (take before (z .marks))) ≡ take before (z .marks)
+  known-marks : marksOfWord before (wordOfMarks (take before (z .marks))) ≡ take before (z .marks)
   known-marks =
       ap (λ (n : ℕ). marksOfWord n (wordOfMarks (take before (z .marks)))) (sym known-length) ∙ marks-of-word (take before (z .marks)) known-bits
 
@@ -200,7 +200,7 @@ module _ (b : List ℕ) (small : Below 256 b) (words marks : ℕ) (e : refusalOf
         window-marks = below-drop (2 ^ 32) before (z .marks) marks-below;
         based = base-below;
         list-words = list-below;
-        listed = rw (list-length b words f) (below 0);
+        listed = rw (list-length b words f) (omega arith);
         stated = rw (window-length b words f, ← f .stated) (below 1);
       }
 

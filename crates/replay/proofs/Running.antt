@@ -23,7 +23,7 @@ use Rattle.known_places.proofs.Count.{before-counted, places-counted}
 use Rattle.place_marks.proofs.Word.{word-marks}
 use Rattle.watch.specs.Watch.{Reply, watchReply}
 use Rattle.records.specs.Number.{numbersOf}
-use Rattle.records.specs.Recorded.{ofBytes}
+use Rattle.records.specs.Recorded.{listCount, ofBytes}
 use Rattle.record_refusal.specs.Refusal.{stateIn, mapOf, refusalOf, Fitting, Accepted}
 use Rattle.replay.specs.Replay.{replayReply}
 use Rattle.replay.specs.Promise.{Ran, CycleRan, ReplayPromise}
@@ -46,7 +46,7 @@ bits-within n base words thumb marks e =
     by false g = let z : _≡_ {A = ℕ} 7 0 = g in absurd (omega (arith, z))
 
 module _ (b : List ℕ) (words : ℕ) (a : Accepted b words) where
-  pub known-bits : bitsOnly (take before (drop (54 + words) (numbersOf b))) ≡ true
+  pub known-bits : bitsOnly (take before (drop (55 + words) (numbersOf b))) ≡ true
   known-bits = snd (valid (take before (drop 2 (numbersOf b)))) _ (sym (well-formed b words (a .fitting)) ∙ a .formed)
 
   abbrev n : ℕ
@@ -59,7 +59,7 @@ module _ (b : List ℕ) (words : ℕ) (a : Accepted b words) where
   unfolding decode mapIn
   limit-words = a .within
 
-  pub window-bits : (k : ℕ) → k ≡ words → bitsOnly (take k (drop (106 + words) (numbersOf b))) ≡ true
+  pub window-bits : (k : ℕ) → k ≡ words → bitsOnly (take k (drop (108 + words) (numbersOf b))) ≡ true
   window-bits k e = rw (e, ← window-known-is b words (a .fitting)) (bits-within n (ofBytes b .base) window-words false _ limit-words)
 
   pub short-list : length (ofBytes b .list) ≤ 4096
@@ -70,10 +70,10 @@ module _ (b : List ℕ) (words : ℕ) (a : Accepted b words) where
 
 -- ---- the list
 
-module _ (b : List ℕ) (words : ℕ) (f : Fitting b words) (n : ℕ) (e : n ≡ getD (numbersOf b) 0 0) where
-  pub list-first : (k : ℕ) (x rest : List ℕ) → k ≡ n → x ≡ take k (drop (107 + 2 * words) (numbersOf b)) → take n (x ++ rest) ≡ ofBytes b .list
+module _ (b : List ℕ) (words : ℕ) (f : Fitting b words) (n : ℕ) (e : n ≡ listCount (numbersOf b)) where
+  pub list-first : (k : ℕ) (x rest : List ℕ) → k ≡ n → x ≡ take k (drop (109 + 2 * words) (numbersOf b)) → take n (x ++ rest) ≡ ofBytes b .list
   list-first k x rest h g =
-      let y : x ≡ ofBytes b .list = g ∙ (ap (λ (i : ℕ). take i (drop (107 + 2 * words) (numbersOf b))) (h ∙ e) ∙ sym (list-is b words f)) in
+      let y : x ≡ ofBytes b .list = g ∙ (ap (λ (i : ℕ). take i (drop (109 + 2 * words) (numbersOf b))) (h ∙ e) ∙ sym (list-is b words f)) in
       take-at x rest n (ap length y ∙ (list-length b words f ∙ sym e)) ∙ y
 
   pub count-fits : length (ofBytes b .list) ≤ 4096 → n ≤ 4096

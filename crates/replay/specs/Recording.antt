@@ -12,7 +12,7 @@ use Rattle.meaning.specs.Map.{Map}
 use Rattle.place_marks.specs.Word.{mapIn}
 use Rattle.layout.specs.State.{encode, decode}
 use Rattle.watch.specs.Watch.{Reply, limitOf, watchReply}
-use Rattle.records.specs.Recorded.{toBytes, ofBytes, wordOfMarks, recordOf}
+use Rattle.records.specs.Recorded.{layoutBit, toBytes, ofBytes, wordOfMarks, recordOf}
 use Rattle.record_refusal.specs.Refusal.{stateIn, mapOf, refusalOf}
 use Rattle.replay.specs.Replay.{refusedReply, replayReply}
 
@@ -55,7 +55,7 @@ cycleIn b =
       list = x .list;
     }
 
--- a cycle that can be recorded: in ARM state, as many marks as window words, and every number of 32 bits
+-- a cycle that can be recorded: in ARM state, as many marks as window words, a count of instruction words of 31 bits, and every number of 32
 pub record Recordable (x : Cycle) : Type 0 where
   pub sized : Sized (x .machine)
   pub arm : x .machine .thumb ≡ false
@@ -65,7 +65,7 @@ pub record Recordable (x : Cycle) : Type 0 where
   pub window-marks : (n : ℕ) → getD (x .marks) n 0 < 2 ^ 32
   pub based : x .base < 2 ^ 32
   pub list-words : (n : ℕ) → getD (x .list) n 0 < 2 ^ 32
-  pub listed : length (x .list) < 2 ^ 32
+  pub listed : length (x .list) < layoutBit
   pub stated : before + length (x .window) < 2 ^ 32
 
 -- it is read back, without the bits of its word of marks above the last place

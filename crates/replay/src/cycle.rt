@@ -1,11 +1,12 @@
 // The watched run of a record that is not refused.
 ghost use mathlib.Core.Path.{_≡_};
 ghost use mathlib.Core.Bool.{true, false};
-ghost use Prim.Native.Nat.{_^_, _<_, _≤_};
-ghost use lib.ListN.{length, getD, take};
+ghost use Prim.Native.Nat.{_≤_};
+ghost use lib.ListN.{length, take};
+ghost use Rattle.machine.specs.Place.{before};
 ghost use Rattle.records.specs.Number.{numbersOf};
 ghost use Rattle.layout.specs.State.{decode};
-ghost use Rattle.records.specs.Recorded.{ofBytes};
+ghost use Rattle.records.specs.Recorded.{listCount, ofBytes};
 ghost use Rattle.place_marks.specs.Word.{mapIn};
 ghost use Rattle.known_places.specs.Count.{knownPlaces};
 ghost use Rattle.watch.specs.Watch.{answered};
@@ -14,22 +15,17 @@ ghost use Rattle.replay.specs.Promise.{Ran, CycleRan};
 use layout::state::decode;
 use machine::Machine;
 use machine::place::WINDOW;
+use record_numbers::count::list_count;
 use record_numbers::fill;
 use record_numbers::nth;
 use record_refusal::field;
 use watch::Watched;
 use watch::watch;
 
-fn index(x: u32) -> usize
-    ensures { λ r. ⌜ (r ≡ x) × (r < 2 ^ 32) ⌝ }
-{
-    x as usize
-}
-
 // The machine of the words before the window.
 fn machine_of(bytes: &[u8], words: usize) -> Machine
     requires { ⌜ (Fitting (now bytes) words) × (wellFormed (ofBytes (now bytes)) ≡ true) ⌝ }
-    ensures { λ m. ⌜ m ≡ decode false (take 52 (ofBytes (now (bytes .entry)) .values)) ⌝ }
+    ensures { λ m. ⌜ m ≡ decode false (take before (ofBytes (now (bytes .entry)) .values)) ⌝ }
 {
     let mut state = [0u32; WINDOW];
     fill(bytes, field::VALUES, &mut state);
@@ -38,7 +34,7 @@ fn machine_of(bytes: &[u8], words: usize) -> Machine
 
 // The list, in the first words of a list of the most words.
 fn fill_list(bytes: &[u8], words: usize, n: usize, list: &mut [u32])
-    requires { ⌜ (Fitting (now bytes) words) × (n ≡ getD (numbersOf (now bytes)) 0 0) × (n ≤ length (now list)) ⌝ }
+    requires { ⌜ (Fitting (now bytes) words) × (n ≡ listCount (numbersOf (now bytes))) × (n ≤ length (now list)) ⌝ }
     ensures { λ _. ⌜ take n (now (list .exit)) ≡ ofBytes (now (bytes .entry)) .list ⌝ }
 {
     fill(bytes, field::LIST + 2 * words, &mut list[..n]);
@@ -58,7 +54,7 @@ fn run_list(
 {
     let words = window.len();
     let base = nth(bytes, field::BASE + 2 * words);
-    let n = index(nth(bytes, field::LIST_COUNT));
+    let n = list_count(bytes);
     let mut list = [0u32; 4096];
     fill_list(bytes, words, n, &mut list);
     watch(machine, known, window, window_marks, base, &list[..n])

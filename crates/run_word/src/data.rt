@@ -48,11 +48,9 @@ pub(crate) fn process_data(
     }
     if n < 10 {
         if bit(op, 8) {
-            scalar_double(s, fpscr, n, op);
-            return done(x, fpscr);
+            return done(x, scalar_double(s, fpscr, n, op));
         }
-        scalar_single(s, fpscr, n, op);
-        return done(x, fpscr);
+        return done(x, scalar_single(s, fpscr, n, op));
     }
     if bit(op, 8) {
         return done(x, unary_double(s, fpscr, op, numbered(n)));

@@ -1,4 +1,5 @@
-// The nine operations of arithmetic on the registers that a word names, by the operation's number.
+// The nine operations of arithmetic on the registers that a word names, by the operation's number. Each gives FPSCR after it. Of
+// operations 1 to 9 the first four accumulate.
 ghost use mathlib.Core.Path.{_≡_};
 ghost use Prim.Native.Nat.{_/_, _%_, _^_, _<_};
 ghost use lib.Ieee.{binary32, binary64};
@@ -18,30 +19,30 @@ use decoding::fields::single_n;
 use decoding::operation::arithmetic_of;
 use decoding::operation::numbered;
 
-pub fn scalar_single(s: &mut [u32; 32], fpscr: u32, number: u8, op: u32)
+pub fn scalar_single(s: &mut [u32; 32], fpscr: u32, number: u8, op: u32) -> u32
     requires { ⌜ (0 < number) × (number < 10) × (fpscr / 2 ^ 16 % 8 ≡ 0) ⌝ }
-    ensures { λ _. ⌜ Handled (namedTree binary32 op (operationNumbered number)) op (now (s .entry)) fpscr (now (s .exit)) (Done fpscr) ⌝ }
+    ensures { λ r. ⌜ Handled (namedTree binary32 op (operationNumbered number)) op (now (s .entry)) fpscr (now (s .exit)) (Done r) ⌝ }
 {
     let kind = arithmetic_of(numbered(number));
     let d = single_d(op);
     let n = single_n(op);
     let m = single_m(op);
-    if quick_single(s, fpscr % 0x1000_0000, kind, d, n, m) {
-        return;
+    if quick_single(s, fpscr, kind, number < 5, d, n, m) {
+        return fpscr;
     }
-    rounded_single(s, fpscr % 0x1000_0000, kind, d, n, m);
+    rounded_single(s, fpscr, kind, d, n, m)
 }
 
-pub fn scalar_double(s: &mut [u32; 32], fpscr: u32, number: u8, op: u32)
+pub fn scalar_double(s: &mut [u32; 32], fpscr: u32, number: u8, op: u32) -> u32
     requires { ⌜ (0 < number) × (number < 10) × (fpscr / 2 ^ 16 % 8 ≡ 0) ⌝ }
-    ensures { λ _. ⌜ Handled (namedTree binary64 op (operationNumbered number)) op (now (s .entry)) fpscr (now (s .exit)) (Done fpscr) ⌝ }
+    ensures { λ r. ⌜ Handled (namedTree binary64 op (operationNumbered number)) op (now (s .entry)) fpscr (now (s .exit)) (Done r) ⌝ }
 {
     let kind = arithmetic_of(numbered(number));
     let d = double_d(op);
     let n = double_n(op);
     let m = double_m(op);
-    if quick_double(s, fpscr % 0x1000_0000, kind, d, n, m) {
-        return;
+    if quick_double(s, fpscr, kind, number < 5, d, n, m) {
+        return fpscr;
     }
-    rounded_double(s, fpscr % 0x1000_0000, kind, d, n, m);
+    rounded_double(s, fpscr, kind, d, n, m)
 }

@@ -1,5 +1,5 @@
 -- What an item does to what the lines before it left.
-use Prim.Native.Nat.{ℕ, _+_, _-_, _%_, _^_}
+use Prim.Native.Nat.{ℕ, _+_, _-_}
 use mathlib.Core.Bool.{Bool, true, false, cond}
 use mathlib.Core.List.{List, [], _∷_}
 use lib.Dec.{eqb, ltb}
@@ -12,7 +12,7 @@ use Rattle.listing.specs.declared.line.Item as listed
 use Rattle.listing.specs.declared.line.Item.the-variants as item
 use Rattle.listing.specs.declared.line.Expected.the-variants as expected
 use Rattle.listing.specs.Line.{given, itemOf}
-use Rattle.place_names.specs.Place.{placeOf, width}
+use Rattle.place_names.specs.Place.{placeOf, ownBits}
 use Rattle.tokens.specs.Token.{wordsOf}
 use Rattle.script.specs.declared.item.Layout.{Layout}
 use Rattle.script.specs.declared.item.Step.{Step}
@@ -50,7 +50,7 @@ store l i x = cond (ltb i mostWords) (set l i x) l
 unfoldable pub putAt : ℕ → ℕ → Buffers → Buffers
 putAt p x b =
     cond (ltb p before)
-    (buffers (set (b .state) p (inPosition (place p) (x % 2 ^ width (place p)))) (b .map) (b .window) (b .list))
+    (buffers (set (b .state) p (inPosition (place p) (ownBits (place p) x))) (b .map) (b .window) (b .list))
     (buffers (b .state) (b .map) (store (b .window) (p - before) x) (b .list))
 
 -- a place that is unknown

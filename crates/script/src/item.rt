@@ -2,13 +2,13 @@
 ghost use mathlib.Core.Path.{_≡_};
 ghost use mathlib.Core.List.{List};
 ghost use mathlib.Core.Bool.{false};
-ghost use Prim.Native.Nat.{ℕ, _%_, _^_};
+ghost use Prim.Native.Nat.{ℕ};
 ghost use lib.ListN.{drop, set};
 ghost use Rattle.machine.specs.Place.{place};
 ghost use Rattle.layout.specs.State.{inPosition};
 ghost use Rattle.meaning.specs.Map.{Map, mark};
 ghost use Rattle.place_marks.specs.Word.{mapIn};
-ghost use Rattle.place_names.specs.Place.{width};
+ghost use Rattle.place_names.specs.Place.{ownBits};
 ghost use Rattle.tokens.specs.Token.{wordsOf};
 ghost use Rattle.script.specs.Item.{buffers, outcome, isPlace, store, putAt, wordOutcome, setOutcome, unknownOutcome, windowStep, lineOutcome};
 use super::mistake::Mistake;
@@ -19,9 +19,11 @@ use listing::line::Next;
 use listing::line::item_of;
 use listing::line::next_place;
 use machine::place::CONTROL;
+use machine::place::EXCEPTIONS;
 use machine::place::FLAGS;
 use machine::place::NZCV;
 use machine::place::WINDOW;
+use machine::place::control_of;
 use place_marks::place::set_known;
 
 // The window's base and count of words, whether one was given, and the count of instruction words.
@@ -56,16 +58,19 @@ fn is_place(words: usize, p: usize) -> bool
 
 // A place's bits as the state's word has them.
 fn in_position(p: usize, value: u32) -> u32
-    ensures { λ r. ⌜ r ≡ inPosition (place p) (value % 2 ^ width (place p)) ⌝ }
+    ensures { λ r. ⌜ r ≡ inPosition (place p) (ownBits (place p) value) ⌝ }
 {
     if p == FLAGS {
         return value % 16 * 0x1000_0000;
     }
     if p == CONTROL {
-        return value % 0x1000_0000;
+        return control_of(value);
     }
     if p == NZCV {
         return value % 16 * 0x1000_0000;
+    }
+    if p == EXCEPTIONS {
+        return value % 32;
     }
     value
 }

@@ -12,7 +12,7 @@ use Rattle.meaning.specs.Step.{Step}
 use Rattle.meaning.proofs.Laws.{after-none, after-one}
 use Rattle.short_vectors.specs.declared.vector.Vector.{Vector}
 use Rattle.short_vectors.specs.Vector.{bankOf, iterationsOf, strideOf, stepOf, secondOf, Vectored, Steppable}
-use Rattle.short_vectors.specs.Register.{Stepped, Iterated}
+use Rattle.short_vectors.specs.Register.{Stepped, SteppedWith, Iterated, IteratedWith}
 
 bank-some : (f : Format) → 0 < bankOf f
 bank-some binary32 = omega arith
@@ -282,6 +282,23 @@ onSingles =
       all = Iterated;
       none = λ each s q v. after-none each _;
       next = λ i each s₀ s s′ h e q v. e q v ∙ after-one i each _ _ (h q v);
+    }
+
+-- and with FPSCR
+pub record FpscrAndSingles : Type 0 where
+  pub fpscr : ℕ
+  pub s : List ℕ
+
+abbrev pub both : ℕ → List ℕ → FpscrAndSingles
+both fpscr s = record { fpscr = fpscr; s = s }
+
+abbrev pub onBoth : Repeats FpscrAndSingles Step
+onBoth =
+    record {
+      one = λ x a b. SteppedWith x (a .fpscr) (a .s) (b .fpscr) (b .s);
+      all = λ n each a b. IteratedWith n each (a .fpscr) (a .s) (b .fpscr) (b .s);
+      none = λ each a q v. after-none each _;
+      next = λ i each a₀ a a′ h e q v. e q v ∙ after-one i each _ _ (h q v);
     }
 
 -- a distance of at most seven strides

@@ -1,4 +1,4 @@
--- Short vectors: how many iterations a stepping word makes, and which registers each uses. c is FPSCR 27:0.
+-- Short vectors: how many iterations a stepping word makes, and which registers each uses. c is FPSCR 27:5.
 use mathlib.Core.Path.{_≡_}
 use Prim.Native.Nat.{ℕ, _+_, _*_, _/_, _%_, _^_, _<_, _≤_}
 use mathlib.Core.Bool.{Bool, true, false, cond}

@@ -1,2 +1,3 @@
 // VFPv2's short vectors.
+pub mod raise;
 pub mod vector;

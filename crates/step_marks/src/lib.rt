@@ -28,6 +28,9 @@ use place_marks::registers::double_known;
 use place_marks::registers::mark_double;
 use place_marks::registers::mark_single;
 use place_marks::registers::single_known;
+use processing_marks::raised::mark_raised;
+use processing_marks::vector::mark_root_double;
+use processing_marks::vector::mark_root_single;
 
 // A move or a sign change: the marks are copied.
 pub fn mark_sign(marks: u64, double: bool, op: u32) -> u64
@@ -44,23 +47,24 @@ pub fn mark_root(marks: u64, double: bool, op: u32) -> u64
     ensures { λ y. ⌜ ((control : ℕ) → MarksStepped (rootStep (precision double) control (regD (precision double) op) (regM (precision double) op)) marks y) ⌝ }
 {
     if double {
-        return mark_double(marks, double_d(op), double_known(marks, double_m(op)));
+        return mark_root_double(marks, double_d(op), double_m(op));
     }
-    mark_single(marks, single_d(op), single_known(marks, single_m(op)))
+    mark_root_single(marks, single_d(op), single_m(op))
 }
 
-// A compare marks FPSCR 31:28 from both operands, with zero from one.
+// A compare marks FPSCR 31:28 from both operands, with zero from one, whether any NaN is invalid or not.
 pub fn mark_compare(marks: u64, double: bool, op: u32) -> u64
-    ensures { λ y. ⌜ MarksStepped (compareStep (precision double) (regD (precision double) op) (regM (precision double) op)) marks y ⌝ }
+    ensures { λ y. ⌜ ((any : Bool) → MarksStepped (compareStep (precision double) any (regD (precision double) op) (regM (precision double) op)) marks y) ⌝ }
 {
-    let all = m_known(marks, double, op) & d_known(marks, double, op);
-    set_known(marks, FLAGS, all)
+    let both = m_known(marks, double, op) & d_known(marks, double, op);
+    mark_raised(set_known(marks, FLAGS, both), both)
 }
 
 pub fn mark_compare_zero(marks: u64, double: bool, op: u32) -> u64
-    ensures { λ y. ⌜ MarksStepped (compareZeroStep (precision double) (regD (precision double) op)) marks y ⌝ }
+    ensures { λ y. ⌜ ((any : Bool) → MarksStepped (compareZeroStep (precision double) any (regD (precision double) op)) marks y) ⌝ }
 {
-    set_known(marks, FLAGS, d_known(marks, double, op))
+    let all = d_known(marks, double, op);
+    mark_raised(set_known(marks, FLAGS, all), all)
 }
 
 fn d_known(marks: u64, double: bool, op: u32) -> bool
@@ -81,40 +85,47 @@ fn m_known(marks: u64, double: bool, op: u32) -> bool
     single_known(marks, single_m(op))
 }
 
-// From an integer, signed or not. A single is rounded by the mode, so that FPSCR 27:0 is needed too; a double is exact.
+// From an integer, signed or not. A single is rounded by the mode, so that FPSCR 27:5 is needed too, but not for what is raised; a double is exact.
 pub fn mark_from_integer(marks: u64, double: bool, op: u32) -> u64
     ensures { λ y. ⌜ ((signed : Bool) → MarksStepped (fromStep (precision double) signed (regD (precision double) op) (regM binary32 op)) marks y) ⌝ }
 {
     let all = single_known(marks, single_m(op));
     if double {
-        return mark_double(marks, double_d(op), all);
+        return mark_raised(mark_double(marks, double_d(op), all), all);
     }
-    mark_single(marks, single_d(op), all & is_known(marks, CONTROL))
+    mark_raised(
+        mark_single(marks, single_d(op), all & is_known(marks, CONTROL)),
+        all,
+    )
 }
 
-// Both need FPSCR 27:0: narrowing rounds and flushes, and a NaN goes by bit 25.
+// Both need FPSCR 27:5: narrowing rounds and flushes, and a NaN goes by bit 25. What widening raises does not.
 pub fn mark_convert(marks: u64, double: bool, op: u32) -> u64
     ensures { λ y. ⌜ MarksStepped (convertStep (precision double) op) marks y ⌝ }
 {
     if double {
         let all = double_known(marks, double_m(op)) & is_known(marks, CONTROL);
-        return mark_single(marks, single_d(op), all);
+        return mark_raised(mark_single(marks, single_d(op), all), all);
     }
-    let all = single_known(marks, single_m(op)) & is_known(marks, CONTROL);
-    mark_double(marks, double_d(op), all)
+    let known = single_known(marks, single_m(op));
+    mark_raised(
+        mark_double(marks, double_d(op), known & is_known(marks, CONTROL)),
+        known,
+    )
 }
 
-// To an integer by the mode: FPSCR 27:0 is needed too.
+// To an integer by the mode: FPSCR 27:5 is needed too.
 pub fn mark_rounded(marks: u64, double: bool, op: u32) -> u64
     ensures { λ y. ⌜ ((signed : Bool) → MarksStepped (roundStep (precision double) signed (regD binary32 op) (regM (precision double) op)) marks y) ⌝ }
 {
     let all = m_known(marks, double, op) & is_known(marks, CONTROL);
-    mark_single(marks, single_d(op), all)
+    mark_raised(mark_single(marks, single_d(op), all), all)
 }
 
 // Towards zero it is not.
 pub fn mark_truncated(marks: u64, double: bool, op: u32) -> u64
     ensures { λ y. ⌜ ((signed : Bool) → MarksStepped (truncateStep (precision double) signed (regD binary32 op) (regM (precision double) op)) marks y) ⌝ }
 {
-    mark_single(marks, single_d(op), m_known(marks, double, op))
+    let known = m_known(marks, double, op);
+    mark_raised(mark_single(marks, single_d(op), known), known)
 }

@@ -52,7 +52,7 @@ fn marks_as_given(marks: u64, kind: u64) -> bool {
     if kind >= 100 {
         return marks == GIVEN_MARKS;
     }
-    marks == GIVEN_MARKS % 0x10_0000_0000_0000
+    marks == GIVEN_MARKS % 0x20_0000_0000_0000
 }
 
 fn window_marks_as_given(marks: &[u8], at: usize, mark: u8) -> bool {

@@ -1,5 +1,5 @@
-// A case: call, Thumb bit, word, base, window length, 4 window words, 52 places; then the kind, address and word of the exit, the 52 places and the
-// 4 window words that are left.
+// A case: call, Thumb bit, word, base, window length, 4 window words, 52 words of a machine, FPSCR 27:0 in one of them; then the kind, address and word of the exit,
+// and the machine and the 4 window words that are left.
 use bits::psr::Psr;
 use machine::Machine;
 use vfp::Answer;
@@ -98,9 +98,22 @@ fn cores_differ(v: [u32; 120], r: [u32; 16]) -> bool {
     false
 }
 
+// Whether a word is a move or a sign change, which set no exception.
+fn is_sign_operation(op: u32) -> bool {
+    (op & 0xB0_0040 == 0xB0_0040) & ((op & 0xF_0000 == 0) | (op & 0xF_0080 == 0x1_0000))
+}
+
+// FPSCR 27:0 but for what a number operation that ran set of bits 4:0: the Rust sets none, and what stood there has to stay.
+fn without_raised(v: [u32; 120], control: u32) -> u32 {
+    if (v[0] == 0) & (v[61] == 0) & !is_sign_operation(v[2]) {
+        return control & (v[113] | 0xFFF_FFE0);
+    }
+    control
+}
+
 fn controls_differ(v: [u32; 120], fpscr: u32, fpexc: u32, cpsr: Psr) -> bool {
     (v[112] != fpscr & 0xF000_0000)
-        | (v[113] != fpscr % 0x1000_0000)
+        | (v[113] != without_raised(v, fpscr % 0x1000_0000))
         | (v[114] != fpexc)
         | (v[115] != cpsr.to_bits())
 }

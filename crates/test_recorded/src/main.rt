@@ -6,6 +6,10 @@ ghost use Prim.Native.Nat.{_+_, _<_};
 mod record;
 
 use libc::STDOUT_FILENO;
+use machine::place::CONTROL;
+use machine::place::EXCEPTIONS;
+use machine::place::WINDOW;
+use machine::place::control_of;
 use record::ADDRESS;
 use record::BASE;
 use record::CALL;
@@ -14,6 +18,7 @@ use record::GIVEN_WINDOW;
 use record::KIND;
 use record::LEFT;
 use record::LEFT_WINDOW;
+use record::PLACES;
 use record::REPORTED;
 use record::THUMB;
 use record::WINDOW_WORDS;
@@ -110,7 +115,7 @@ fn differs(b: &[u8; 512], kind: u32, place: usize, got: u32) -> bool {
     print_hex(b" word ", word(b, WORD));
     print_hex(b" base ", word(b, BASE));
     print_hex(b" window words ", word(b, WINDOW_WORDS));
-    print_words(b"\n  state", b, GIVEN, 52);
+    print_words(b"\n  state", b, GIVEN, PLACES);
     print_words(b"  window", b, GIVEN_WINDOW, 8);
     print_hex(b"  recorded kind ", word(b, KIND));
     print_hex(b" address ", word(b, ADDRESS));
@@ -123,8 +128,51 @@ fn differs(b: &[u8; 512], kind: u32, place: usize, got: u32) -> bool {
     false
 }
 
+// The state of a record, which has FPSCR 27:0 in one word.
+fn given(b: &[u8; 512]) -> [u32; WINDOW] {
+    let control = word(b, GIVEN + CONTROL);
+    let mut state = [0u32; WINDOW];
+    fill(b, GIVEN, &mut state);
+    state[CONTROL] = control_of(control);
+    state[EXCEPTIONS] = control % 32;
+    state
+}
+
+// Whether the word of a call that ran is a number operation: data processing other than FCPY, FABS and FNEG.
+fn is_number_operation(b: &[u8; 512]) -> bool {
+    let operation = fpu::operation::fpu_operation(word(b, WORD));
+    let ran = word(b, CALL) == 0 && word(b, KIND) == 0;
+    ran && (operation < 10 || 12 < operation)
+}
+
+// FPSCR 27:0 but for what a number operation set of bits 4:0: the Rust sets none, and what stood there has to stay.
+fn without_raised(b: &[u8; 512], control: u32) -> u32 {
+    if is_number_operation(b) {
+        return control & (word(b, LEFT + CONTROL) | 0xFFF_FFE0);
+    }
+    control
+}
+
+// The words that a call left, as they are recorded: FPSCR 27:0 in one.
+fn joined(b: &[u8; 512], state: &[u32; WINDOW]) -> [u32; PLACES] {
+    let mut told = [0u32; PLACES];
+    let mut i: usize = 0;
+    while i < PLACES {
+        told[i] = state[i];
+        i += 1;
+    }
+    told[CONTROL] = without_raised(b, state[CONTROL] | state[EXCEPTIONS]);
+    told
+}
+
 // Whether a call left what was recorded.
-fn left(b: &[u8; 512], kind: u32, state: &[u32; 52], window: &[u32; 8], answer: &[u32; 5]) -> bool {
+fn left(
+    b: &[u8; 512],
+    kind: u32,
+    state: &[u32; WINDOW],
+    window: &[u32; 8],
+    answer: &[u32; 5],
+) -> bool {
     if kind != word(b, KIND) {
         return differs(b, kind, 0, 0);
     }
@@ -143,13 +191,14 @@ fn left(b: &[u8; 512], kind: u32, state: &[u32; 52], window: &[u32; 8], answer: 
     if answer[4] != 0 {
         return differs(b, kind, 4, answer[4]);
     }
-    let p = as_recorded(b, LEFT, state);
-    if p < 52 {
-        return differs(b, kind, p, state[p]);
+    let told = joined(b, state);
+    let p = as_recorded(b, LEFT, &told);
+    if p < PLACES {
+        return differs(b, kind, p, told[p]);
     }
     let w = as_recorded(b, LEFT_WINDOW, window);
     if w < 8 {
-        return differs(b, kind, 52 + w, window[w]);
+        return differs(b, kind, PLACES + w, window[w]);
     }
     true
 }
@@ -184,10 +233,9 @@ fn load_store(b: &[u8; 512], state: &mut [u32], window: &mut [u32], answer: &mut
 }
 
 fn replay(b: &[u8; 512]) -> bool {
-    let mut state = [0u32; 52];
+    let mut state = given(b);
     let mut window = [0u32; 8];
     let mut answer = [0xA5A5_A5A5u32; 5];
-    fill(b, GIVEN, &mut state);
     fill(b, GIVEN_WINDOW, &mut window);
     let call = word(b, CALL);
     if call == 0 {

@@ -21,6 +21,9 @@ pub const REPORTED: usize = 7;
 
 pub const GIVEN: usize = 8;
 
+// The words of a recorded state: places 0 to 51, of which place 49 has FPSCR 27:0.
+pub const PLACES: usize = 52;
+
 pub const GIVEN_WINDOW: usize = 60;
 
 pub const LEFT: usize = 68;

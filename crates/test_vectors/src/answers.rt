@@ -1,6 +1,4 @@
 // The functions on numbers by number, on words of up to 64 bits.
-use directed::arithmetic::arithmetic32;
-use directed::arithmetic::arithmetic64;
 use directed::directed::directed32;
 use directed::directed::directed64;
 use exceptions::exceptions::Raised32;
@@ -10,9 +8,14 @@ use integers::integer::from_integer64;
 use integers::integer::to_integer32;
 use integers::integer::to_integer64;
 use numbers::arithmetic::Arithmetic;
+use numbers::arithmetic::reads_d;
 use numbers::compare::Compared;
 use numbers::compare::compare32;
 use numbers::compare::compare64;
+use quiet::quick::quick32;
+use quiet::quick::quick64;
+use roots::root::quick_root32;
+use roots::root::quick_root64;
 use roots::root::square_root32;
 use roots::root::square_root64;
 use rounding::rounding::rounding_of;
@@ -87,12 +90,29 @@ fn is(c: Compared, these: u32) -> Raised {
     }
 }
 
+// A root; in mode 00 by an estimate where that gives one.
+fn root_single(control: u32, a: u32) -> Raised {
+    let x = quick_root32(a);
+    if (control / 0x40_0000 % 4 == 0) & (0 < x.bits) {
+        return of32(x);
+    }
+    of32(square_root32(control, a))
+}
+
+fn root_double(control: u32, a: u64) -> Raised {
+    let x = quick_root64(a);
+    if (control / 0x40_0000 % 4 == 0) & (0 < x.bits) {
+        return of64(x);
+    }
+    of64(square_root64(control, a))
+}
+
 // Operations 0x20 to 0x2A, whose operand is a single or an integer.
 fn single(w: Work) -> Raised {
     let a = low(w.n);
     let op = w.op;
     match op {
-        0x20 => of32(square_root32(w.control, a)),
+        0x20 => root_single(w.control, a),
         0x21 => flags(compare32(false, a, low(w.m))),
         0x22 => of64(widen(w.control, a)),
         0x23 => of32(from_integer32(w.control, true, a)),
@@ -111,7 +131,7 @@ fn double(w: Work) -> Raised {
     let a = w.n;
     let op = w.op;
     match op {
-        0x30 => of64(square_root64(w.control, a)),
+        0x30 => root_double(w.control, a),
         0x31 => flags(compare64(false, a, w.m)),
         0x32 => of32(narrow(w.control, a)),
         0x33 => of64(from_integer64(true, low(a))),
@@ -125,21 +145,33 @@ fn double(w: Work) -> Raised {
     }
 }
 
-// The stored word, in mode 00 by native floats, and what is raised, which integer work tells.
+// The stored word and what is raised, by integer work; in mode 00 the word is the native one where it shows that it is.
 fn arithmetic_single(w: Work, k: Arithmetic) -> Raised {
     let r = directed32(w.control, k, low(w.n), low(w.m), low(w.d));
-    Raised {
-        bits: arithmetic32(w.control, k, low(w.n), low(w.m), low(w.d)) as u64,
-        exceptions: r.exceptions,
+    let x = quick32(k, reads_d(k), low(w.n), low(w.m), low(w.d));
+    if w.control / 0x40_0000 % 4 == 0 {
+        if x.taken {
+            return Raised {
+                bits: x.bits as u64,
+                exceptions: r.exceptions,
+            };
+        }
     }
+    of32(r)
 }
 
 fn arithmetic_double(w: Work, k: Arithmetic) -> Raised {
     let r = directed64(w.control, k, w.n, w.m, w.d);
-    Raised {
-        bits: arithmetic64(w.control, k, w.n, w.m, w.d),
-        exceptions: r.exceptions,
+    let x = quick64(k, reads_d(k), w.n, w.m, w.d);
+    if w.control / 0x40_0000 % 4 == 0 {
+        if x.taken {
+            return Raised {
+                bits: x.bits,
+                exceptions: r.exceptions,
+            };
+        }
     }
+    of64(r)
 }
 
 pub fn answer(w: Work) -> Raised {

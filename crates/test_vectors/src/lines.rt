@@ -5,7 +5,7 @@ use super::answers::answer;
 use libc::STDOUT_FILENO;
 
 // What a file's lines hold: so many operands, the result and the exceptions, for one operation and one control word; with 0 operands
-// each line has its own operation, control word, two operands, old d and result.
+// each line has its own operation, control word, two operands, old d and result, and with 3 also the exceptions, as FPSCR 4:0 have them.
 pub struct Sort {
     pub operands: u64,
     pub op: u64,
@@ -50,8 +50,12 @@ fn low(x: u64) -> u32 {
     (x % 0x1_0000_0000) as u32
 }
 
+fn has_own_operation(sort: Sort) -> bool {
+    (sort.operands == 0) | (sort.operands == 3)
+}
+
 fn work(sort: Sort, v: [u64; 8]) -> Work {
-    if sort.operands == 0 {
+    if has_own_operation(sort) {
         return Work {
             op: v[0],
             control: low(v[1]),
@@ -70,7 +74,7 @@ fn work(sort: Sort, v: [u64; 8]) -> Work {
 }
 
 fn result(sort: Sort, v: [u64; 8]) -> u64 {
-    if sort.operands == 0 {
+    if has_own_operation(sort) {
         return v[5];
     }
     if sort.operands == 1 {
@@ -85,13 +89,16 @@ fn published(exceptions: u32) -> u64 {
     e % 2 * 16 + e / 2 % 2 * 8 + e / 4 % 2 * 4 + e / 8 % 2 * 2 + e / 16 % 2
 }
 
-// Whether they are those of the line. Lines with their own operation have none.
+// Whether they are those of the line, where it has some.
 fn raised_alike(sort: Sort, v: [u64; 8], exceptions: u32) -> bool {
     if sort.operands == 0 {
         return true;
     }
     if sort.operands == 1 {
         return v[2] == published(exceptions);
+    }
+    if sort.operands == 3 {
+        return v[6] == exceptions as u64;
     }
     v[3] == published(exceptions)
 }

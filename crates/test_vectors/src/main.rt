@@ -1,5 +1,5 @@
-// Runs published vectors, named boundary cases, signs of zeros and NaNs through every function on numbers. It prints each line that differs with its input, and for
-// each file how many lines were compared and how many differ.
+// Runs published vectors, named boundary cases, signs of zeros, NaNs and flushed results through every function on numbers. It prints each line that differs
+// with its input, and for each file how many lines were compared and how many differ.
 mod answers;
 mod lines;
 
@@ -243,6 +243,7 @@ fn main() {
     file(b"boundaries", 0, 0, 0);
     file(b"zeros", 0, 0, 0);
     file(b"nans", 0, 0, 0);
+    file(b"flushed", 3, 0, 0);
     singles();
     singles_and_integers();
     doubles();

@@ -24,7 +24,7 @@ fn side() -> Side {
         cpsr,
         thumb: false,
     };
-    let window = [0; 12];
+    let window = [0; 11];
     Side { machine, window }
 }
 

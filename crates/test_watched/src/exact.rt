@@ -9,6 +9,7 @@ use machine::Machine;
 use machine::place::CONTROL;
 use machine::place::CORE;
 use machine::place::EXC;
+use machine::place::EXCEPTIONS;
 use machine::place::FLAGS;
 use machine::place::NZCV;
 use machine::place::PC;
@@ -73,7 +74,7 @@ fn side(fpscr: u32) -> Side {
         cpsr,
         thumb: false,
     };
-    let window = [0; 12];
+    let window = [0; 11];
     Side { machine, window }
 }
 
@@ -171,7 +172,28 @@ fn four(
     }
 }
 
-// The same for a transfer of system register 0 or 8, which asks for no FPEXC.
+// A number operation, besides: the cumulative exception bits from what they are known by, and from themselves.
+fn raising(r: Rules, s: u64) -> Rules {
+    Rules {
+        enable: r.enable,
+        asks: r.asks,
+        s1: r.s1,
+        t1: r.t1,
+        s2: r.s2,
+        t2: r.t2,
+        s3: r.s3,
+        t3: r.t3,
+        s4: s | place(EXCEPTIONS),
+        t4: place(EXCEPTIONS),
+    }
+}
+
+// One rule for a target and for the cumulative exception bits.
+fn computing(asks: u64, s: u64, t: u64) -> Rules {
+    raising(one(asks, s, t), s)
+}
+
+// One rule for a transfer of system register 0 or 8, which asks for no FPEXC.
 fn exempt(s: u64, t: u64) -> Rules {
     Rules {
         enable: 0,
@@ -247,13 +269,9 @@ fn arithmetic(t: Tally, kind: u32, double: bool) -> Tally {
     let word = arithmetic_word(kind, double);
     let first = read(kind, double, 0);
     let second = read(kind, double, 1);
-    let u = case(t, word, 0, one(place(CONTROL), first, d(double, 0)));
-    case(
-        u,
-        word,
-        0x1_0000,
-        two(place(CONTROL), first, d(double, 0), second, d(double, 1)),
-    )
+    let u = case(t, word, 0, computing(place(CONTROL), first, d(double, 0)));
+    let both = two(place(CONTROL), first, d(double, 0), second, d(double, 1));
+    case(u, word, 0x1_0000, raising(both, first | second))
 }
 
 fn arithmetics(t: Tally, double: bool) -> Tally {
@@ -306,19 +324,11 @@ fn copies(t: Tally, opc2: u32, top: u32) -> Tally {
 
 fn roots(t: Tally, double: bool) -> Tally {
     let word = extension_word(1, 1, double);
-    let u = case(t, word, 0, one(place(CONTROL), m(double, 0), d(double, 0)));
-    case(
-        u,
-        word,
-        0x1_0000,
-        two(
-            place(CONTROL),
-            m(double, 0),
-            d(double, 0),
-            m(double, 1),
-            d(double, 1),
-        ),
-    )
+    let first = m(double, 0);
+    let second = m(double, 1);
+    let u = case(t, word, 0, computing(place(CONTROL), first, d(double, 0)));
+    let both = two(place(CONTROL), first, d(double, 0), second, d(double, 1));
+    case(u, word, 0x1_0000, raising(both, first | second))
 }
 
 fn compares(t: Tally, double: bool, top: u32) -> Tally {
@@ -326,33 +336,33 @@ fn compares(t: Tally, double: bool, top: u32) -> Tally {
         t,
         extension_word(4, top, double),
         0,
-        one(0, d(double, 0) | m(double, 0), place(FLAGS)),
+        computing(0, d(double, 0) | m(double, 0), place(FLAGS)),
     );
     case(
         u,
         extension_word(5, top, double),
         0,
-        one(0, d(double, 0), place(FLAGS)),
+        computing(0, d(double, 0), place(FLAGS)),
     )
 }
 
-// Between the widths.
+// Between the widths. What widening raises needs no mode.
 fn widths(t: Tally) -> Tally {
     let u = case(
         t,
         extension_word(7, 1, false),
         0,
-        one(0, place(17) | place(CONTROL), d(true, 0)),
+        raising(one(0, place(17) | place(CONTROL), d(true, 0)), place(17)),
     );
     case(
         u,
         extension_word(7, 1, true),
         0,
-        one(0, m(true, 0) | place(CONTROL), place(10)),
+        computing(0, m(true, 0) | place(CONTROL), place(10)),
     )
 }
 
-// What an integer as a float needs beside itself: a single is rounded by the mode, a double is exact.
+// What an integer as a float needs beside itself: a single is rounded by the mode, a double is exact. What is raised needs no mode.
 fn mode_of(double: bool) -> u64 {
     if double {
         return 0;
@@ -362,9 +372,9 @@ fn mode_of(double: bool) -> u64 {
 
 // From an integer, to one by the mode, and to one truncating.
 fn integers(t: Tally, double: bool) -> Tally {
-    let from = one(0, place(17) | mode_of(double), d(double, 0));
-    let mode = one(0, m(double, 0) | place(CONTROL), place(10));
-    let zero = one(0, m(double, 0), place(10));
+    let from = raising(one(0, place(17) | mode_of(double), d(double, 0)), place(17));
+    let mode = computing(0, m(double, 0) | place(CONTROL), place(10));
+    let zero = computing(0, m(double, 0), place(10));
     let a = case(t, extension_word(8, 0, double), 0, from);
     let b = case(a, extension_word(8, 1, double), 0, from);
     let c = case(b, extension_word(12, 0, double), 0, mode);
@@ -415,7 +425,11 @@ fn system_reads(t: Tally) -> Tally {
         t,
         0xEEF1_3A10,
         0,
-        one(0, place(FLAGS) | place(CONTROL), place(CORE + 3)),
+        one(
+            0,
+            place(FLAGS) | place(CONTROL) | place(EXCEPTIONS),
+            place(CORE + 3),
+        ),
     );
     let b = case(a, 0xEEF1_FA10, 0, one(0, place(FLAGS), place(NZCV)));
     let c = case(b, 0xEEF8_3A10, 0, exempt(place(EXC), place(CORE + 3)));
@@ -429,7 +443,11 @@ fn system_writes(t: Tally) -> Tally {
         t,
         0xEEE1_3A10,
         0,
-        one(0, place(CORE + 3), place(FLAGS) | place(CONTROL)),
+        one(
+            0,
+            place(CORE + 3),
+            place(FLAGS) | place(CONTROL) | place(EXCEPTIONS),
+        ),
     );
     let b = case(a, 0xEEE8_3A10, 0, exempt(place(CORE + 3), place(EXC)));
     let c = case(b, 0xEEE0_3A10, 0, exempt(0, 0));
@@ -447,13 +465,25 @@ fn accesses(t: Tally) -> Tally {
         e,
         0xED91_6B01,
         0,
-        two(r1, place(WINDOW + 1), place(12), place(54), place(13)),
+        two(
+            r1,
+            place(WINDOW + 1),
+            place(12),
+            place(WINDOW + 2),
+            place(13),
+        ),
     );
     case(
         f,
         0xED81_6B01,
         0,
-        two(r1, place(12), place(WINDOW + 1), place(13), place(54)),
+        two(
+            r1,
+            place(12),
+            place(WINDOW + 1),
+            place(13),
+            place(WINDOW + 2),
+        ),
     )
 }
 

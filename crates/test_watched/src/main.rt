@@ -34,7 +34,7 @@ fn unknown(k: u64) {
 // The window's words are all known and none is named.
 fn example() {
     let machine = Machine::new();
-    let window = [0; 12];
+    let window = [0; 11];
     let side = Side { machine, window };
     let list: [u32; 4] = [0xEE30_0A00, 0xEEB5_0A40, 0xEEF1_FA10, 0x0E30_0A00];
     let a = watched(side, 0xFFFF_FFFF_FFFF_FFFF ^ place(0), &list[..]);

@@ -11,6 +11,7 @@ use machine::Machine;
 use machine::place::CONTROL;
 use machine::place::CORE;
 use machine::place::EXC;
+use machine::place::EXCEPTIONS;
 use machine::place::FLAGS;
 use machine::place::NZCV;
 use machine::place::WINDOW;
@@ -101,10 +102,10 @@ fn cores(seed: u64) -> [u32; 16] {
     r
 }
 
-fn words(seed: u64) -> [u32; 12] {
-    let mut w = [0; 12];
+fn words(seed: u64) -> [u32; 11] {
+    let mut w = [0; 11];
     let mut x = seed;
-    for i in 0..12 {
+    for i in 0..11 {
         x = next(x);
         w[i] = float(x);
     }
@@ -135,7 +136,7 @@ pub fn side(seed: u64) -> Side {
     let machine = Machine {
         s,
         r,
-        fpscr: high(stream(seed, 0x33_0000)) & 0xF1F7_0000,
+        fpscr: high(stream(seed, 0x33_0000)) & 0xF1F7_001F,
         fpexc: enable(stream(seed, 0x4400_0000)),
         cpsr,
         thumb: false,
@@ -165,9 +166,9 @@ fn cores_by(k: u64, a: [u32; 16], b: [u32; 16]) -> [u32; 16] {
     r
 }
 
-fn words_by(k: u64, a: [u32; 12], b: [u32; 12]) -> [u32; 12] {
+fn words_by(k: u64, a: [u32; 11], b: [u32; 11]) -> [u32; 11] {
     let mut w = a;
-    for i in 0..12 {
+    for i in 0..11 {
         w[i] = chosen(k, WINDOW + i, a[i], b[i]);
     }
     w
@@ -179,7 +180,8 @@ fn flags_by(k: u64, a: Psr, b: Psr) -> Psr {
 
 fn fpscr_by(k: u64, a: u32, b: u32) -> u32 {
     chosen(k, FLAGS, a & 0xF000_0000, b & 0xF000_0000)
-        | chosen(k, CONTROL, a & 0xFFF_FFFF, b & 0xFFF_FFFF)
+        | chosen(k, CONTROL, a & 0xFFF_FFE0, b & 0xFFF_FFE0)
+        | chosen(k, EXCEPTIONS, a & 0x1F, b & 0x1F)
 }
 
 fn machine_by(k: u64, m: Machine, n: Machine) -> Machine {

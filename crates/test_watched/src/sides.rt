@@ -5,6 +5,7 @@ use machine::Machine;
 use machine::place::CONTROL;
 use machine::place::CORE;
 use machine::place::EXC;
+use machine::place::EXCEPTIONS;
 use machine::place::FLAGS;
 use machine::place::NZCV;
 use machine::place::WINDOW;
@@ -13,7 +14,7 @@ use watch::watch;
 
 pub struct Side {
     pub machine: Machine,
-    pub window: [u32; 12],
+    pub window: [u32; 11],
 }
 
 // How a watched run ended: the stop by kind and value, the count, and what it left.
@@ -49,17 +50,17 @@ fn byte_of(b: bool) -> u8 {
     if b { 1 } else { 0 }
 }
 
-fn words_of(k: u64) -> [u8; 12] {
-    let mut w = [0; 12];
-    for i in 0..12 {
+fn words_of(k: u64) -> [u8; 11] {
+    let mut w = [0; 11];
+    for i in 0..11 {
         w[i] = byte_of(at(k, WINDOW + i));
     }
     w
 }
 
-fn add_words(k: u64, w: [u8; 12]) -> u64 {
+fn add_words(k: u64, w: [u8; 11]) -> u64 {
     let mut x = k;
-    for i in 0..12 {
+    for i in 0..11 {
         x = with(x, WINDOW + i, w[i] == 1);
     }
     x
@@ -131,7 +132,7 @@ pub fn bits_of(side: Side, p: usize) -> u32 {
     if p < WINDOW {
         return control_of(m, p);
     }
-    side.window[(p - WINDOW) % 12]
+    side.window[(p - WINDOW) % 11]
 }
 
 fn control_of(m: Machine, p: usize) -> u32 {
@@ -139,10 +140,13 @@ fn control_of(m: Machine, p: usize) -> u32 {
         return m.fpscr / 0x1000_0000;
     }
     if p == CONTROL {
-        return m.fpscr % 0x1000_0000;
+        return m.fpscr & 0xFFF_FFE0;
     }
     if p == EXC {
         return m.fpexc;
+    }
+    if p == EXCEPTIONS {
+        return m.fpscr & 0x1F;
     }
     let f = m.cpsr;
     flags_of(f)

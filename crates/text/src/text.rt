@@ -10,6 +10,7 @@ use numerals::number::zeros;
 use place_names::place::CONTROL;
 use place_names::place::CORE;
 use place_names::place::EXC;
+use place_names::place::EXCEPTIONS;
 use place_names::place::FLAGS;
 use place_names::place::NZCV;
 use place_names::place::WINDOW;
@@ -92,8 +93,11 @@ impl Text {
         if p < NZCV {
             return self.add(b"fpexc");
         }
-        if p < WINDOW {
+        if p < EXCEPTIONS {
             return self.add(b"nzcv");
+        }
+        if p < WINDOW {
+            return self.add(b"exceptions");
         }
         self.push(b'w').add_decimal(p - WINDOW)
     }

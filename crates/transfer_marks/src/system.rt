@@ -11,6 +11,7 @@ use bits::field::bit;
 use bits::field::bits;
 use machine::place::CONTROL;
 use machine::place::EXC;
+use machine::place::EXCEPTIONS;
 use machine::place::FLAGS;
 use machine::place::NZCV;
 use place_marks::place::is_known;
@@ -31,9 +32,10 @@ pub fn mark_system(marks: u64, op: u32) -> u64
     }
     let b = core_known(marks, rt);
     if reg == 1 {
-        // Both parts of FPSCR alike.
+        // The three parts of FPSCR alike.
         let y = set_known(marks, FLAGS, b);
-        return set_known(y, CONTROL, b);
+        let z = set_known(y, CONTROL, b);
+        return set_known(z, EXCEPTIONS, b);
     }
     if reg == 8 {
         return set_known(marks, EXC, b);
@@ -41,12 +43,12 @@ pub fn mark_system(marks: u64, op: u32) -> u64
     marks
 }
 
-// A read of FPSCR needs both its parts; what is constant is known.
+// A read of FPSCR needs all its parts; what is constant is known.
 fn value_known(marks: u64, reg: u32) -> bool
     ensures { λ b. ⌜ ((w : List ℕ) (p : Place) → b ≡ allKnown (mapIn marks w) (readSystem reg p .sources)) ⌝ }
 {
     match reg {
-        1 => is_known(marks, CONTROL) & is_known(marks, FLAGS),
+        1 => is_known(marks, EXCEPTIONS) & is_known(marks, CONTROL) & is_known(marks, FLAGS),
         8 => is_known(marks, EXC),
         _ => true,
     }

@@ -6,12 +6,15 @@ use native.Mathlib.Omega.{arith}
 use native.Mathlib.Decide.{ℕ-discrete}
 use lib.ListN.{getD}
 use borrow.Author.Tests.{ne-eqb}
-use Rattle.bits.proofs.Laws.{joined}
 use Rattle.machine.specs.Machine.{withFpscr}
-use Rattle.machine.specs.Place.{core, nzcv, State, state, put}
+use Rattle.machine.specs.Place.{core, nzcv, controlOf, exceptionsOf, State, state, put}
 use Rattle.meaning.specs.Step.{step}
 use Rattle.transfers.specs.Transfer.{readSystem, readFlags, writeSystem}
 use Rattle.transfers.specs.Value.{systemValue}
+
+-- a word is its three parts
+parts : (w : ℕ) → w / 2 ^ 28 * 2 ^ 28 + controlOf w + exceptionsOf w ≡ w
+parts w = omega arith
 
 -- a core register takes the value
 pub read-core : (reg t : ℕ) (st : State) → put st (core t) (systemValue reg (st .machine .fpscr) (st .machine .fpexc)) ≡ step (readSystem reg (core t) ∷ []) st
@@ -20,7 +23,7 @@ read-core reg t st = by (ℕ-discrete reg 0) (ℕ-discrete reg 1) (ℕ-discrete 
     by : Dec (reg ≡ 0) → Dec (reg ≡ 1) → Dec (reg ≡ 8)
         → put st (core t) (systemValue reg (st .machine .fpscr) (st .machine .fpexc)) ≡ step (readSystem reg (core t) ∷ []) st
     by (yes a) b c = rw a
-    by (no a) (yes b) c = rw (b, joined (st .machine .fpscr) 28)
+    by (no a) (yes b) c = rw (b, parts (st .machine .fpscr))
     by (no a) (no b) (yes c) = rw c
     by (no a) (no b) (no c) = simp (ne-eqb _ _ a, ne-eqb _ _ b, ne-eqb _ _ c)
 
@@ -35,9 +38,19 @@ read-flags reg st = by (ℕ-discrete reg 0) (ℕ-discrete reg 1) (ℕ-discrete r
     by (no a) (no b) (yes c) = rw c
     by (no a) (no b) (no c) = simp (ne-eqb _ _ a, ne-eqb _ _ b, ne-eqb _ _ c)
 
--- FPSCR, written in its two parts, is the word
+-- FPSCR after its flags are written from v, and after its control bits are too
+abbrev flagged : ℕ → ℕ → ℕ
+flagged v w = v / 2 ^ 28 * 2 ^ 28 + w % 2 ^ 28
+
+abbrev controlled : ℕ → ℕ → ℕ
+controlled v x = x / 2 ^ 28 * 2 ^ 28 + controlOf (controlOf v) + x % 2 ^ 5
+
+high : (v w : ℕ) → controlled v (flagged v w) / 2 ^ 5 ≡ v / 2 ^ 5
+high v w = omega arith
+
+-- written in its three parts it is the word
 pub write-fpscr : (t : ℕ) (st : State) → state (withFpscr (st .machine) (getD (st .machine .r) t 0)) (st .window) ≡ step (writeSystem 1 (core t)) st
-write-fpscr t st = ap (λ (z : ℕ). state (withFpscr (st .machine) z) (st .window)) (both (getD (st .machine .r) t 0) (st .machine .fpscr))
+write-fpscr t st = ap (λ (z : ℕ). state (withFpscr (st .machine) z) (st .window)) (all (getD (st .machine .r) t 0) (st .machine .fpscr))
   where
-    both : (v w : ℕ) → v ≡ (v / 2 ^ 28 * 2 ^ 28 + w % 2 ^ 28) / 2 ^ 28 * 2 ^ 28 + v % 2 ^ 28 % 2 ^ 28
-    both v w = omega arith
+    all : (v w : ℕ) → v ≡ controlled v (flagged v w) / 2 ^ 5 * 2 ^ 5 + exceptionsOf (exceptionsOf v)
+    all v w = rw (high v w) (omega arith)

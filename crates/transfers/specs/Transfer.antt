@@ -6,8 +6,8 @@ use mathlib.Core.List.{[], _∷_}
 use lib.Dec.{eqb}
 use Rattle.bits.specs.Field.{field, bitOf}
 use Rattle.machine.specs.Registers.{sregOf, highIndex}
-use Rattle.machine.specs.Place.{Place, core, flags, control, exc, nzcv, sWord}
-use Rattle.meaning.specs.Step.{Write, Step, fst, snd, copy, constant, once, nothing}
+use Rattle.machine.specs.Place.{Place, core, flags, control, exc, nzcv, exceptions, controlOf, exceptionsOf, sWord}
+use Rattle.meaning.specs.Step.{Write, Step, fst, snd, rest, copy, constant, once, nothing}
 use Rattle.meaning.specs.Tree.{Tree, Next, on, last, go, branch}
 use Rattle.transfers.specs.declared.Transfer.{Transfer}
 use Rattle.transfers.specs.declared.Transfer.the-variants.{System, Single, Nothing}
@@ -21,11 +21,12 @@ afterTransfer false = on
 abbrev pub fpsid : ℕ
 fpsid = 0x4100_0000
 
--- a system register read: 0 is FPSID, 1 FPSCR, 8 FPEXC, and the others give 0
+-- a system register read: 0 is FPSID, 1 FPSCR, of its three places, 8 FPEXC, and the others give 0
 abbrev pub readSystem : ℕ → Place → Write
 readSystem reg p =
     cond (eqb reg 0) (constant p fpsid)
-    (cond (eqb reg 1) (record { target = p; sources = flags ∷ control ∷ []; value = λ vs. fst vs * 2 ^ 28 + snd vs })
+    (cond (eqb reg 1)
+    (record { target = p; sources = flags ∷ control ∷ exceptions ∷ []; value = λ vs. fst vs * 2 ^ 28 + snd vs + snd (rest vs) })
     (cond (eqb reg 8) (copy p exc) (constant p 0)))
 
 -- to r15 it sets NZCV from bits 31:28
@@ -35,11 +36,14 @@ readFlags reg =
     (cond (eqb reg 1) (copy nzcv flags)
     (cond (eqb reg 8) (record { target = nzcv; sources = exc ∷ []; value = λ vs. fst vs / 2 ^ 28 }) (constant nzcv 0)))
 
--- a system register written: 1 and 8
+-- a system register written: 1, in its three places, and 8
 abbrev pub writeSystem : ℕ → Place → Step
 writeSystem reg p =
     cond (eqb reg 1)
-    (record { target = flags; sources = p ∷ []; value = λ vs. fst vs / 2 ^ 28 } ∷ record { target = control; sources = p ∷ []; value = λ vs. fst vs % 2 ^ 28 } ∷ [])
+    (record { target = flags; sources = p ∷ []; value = λ vs. fst vs / 2 ^ 28 }
+    ∷ record { target = control; sources = p ∷ []; value = λ vs. controlOf (fst vs) }
+    ∷ record { target = exceptions; sources = p ∷ []; value = λ vs. exceptionsOf (fst vs) }
+    ∷ [])
     (cond (eqb reg 8) (copy exc p ∷ []) [])
 
 -- a branch: the low two bits are cleared, in Thumb the lowest

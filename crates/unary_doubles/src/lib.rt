@@ -14,6 +14,7 @@ use decoding::fields::double_m;
 use decoding::fields::single_d;
 use decoding::fields::single_m;
 use decoding::operation::Operation;
+use machine::place::control_of;
 use steps::compare::compare_double;
 use steps::compare::compare_double_zero;
 use steps::root::root_double;
@@ -38,40 +39,18 @@ pub fn unary_double(s: &mut [u32; 32], fpscr: u32, op: u32, o: Operation) -> u32
             sign_double(s, SignOperation::Negate, double_d(op), double_m(op));
             fpscr
         }
-        Operation::Fsqrt => {
-            root_double(s, fpscr % 0x1000_0000, double_d(op), double_m(op));
-            fpscr
-        }
-        Operation::Fcmp | Operation::Fcmpe => compare_double(s, fpscr, double_d(op), double_m(op)),
-        Operation::Fcmpz | Operation::Fcmpez => compare_double_zero(s, fpscr, double_d(op)),
-        Operation::Fcvt => {
-            narrow_double(s, fpscr, single_d(op), double_m(op));
-            fpscr
-        }
-        Operation::Fuito => {
-            from_integer_double(s, false, double_d(op), single_m(op));
-            fpscr
-        }
-        Operation::Fsito => {
-            from_integer_double(s, true, double_d(op), single_m(op));
-            fpscr
-        }
-        Operation::Ftoui => {
-            round_double(s, fpscr, false, single_d(op), double_m(op));
-            fpscr
-        }
-        Operation::Ftouiz => {
-            truncate_double(s, false, single_d(op), double_m(op));
-            fpscr
-        }
-        Operation::Ftosi => {
-            round_double(s, fpscr, true, single_d(op), double_m(op));
-            fpscr
-        }
-        Operation::Ftosiz => {
-            truncate_double(s, true, single_d(op), double_m(op));
-            fpscr
-        }
+        Operation::Fsqrt => { root_double(s, control_of(fpscr), fpscr, double_d(op), double_m(op)) }
+        Operation::Fcmp => compare_double(s, fpscr, false, double_d(op), double_m(op)),
+        Operation::Fcmpe => compare_double(s, fpscr, true, double_d(op), double_m(op)),
+        Operation::Fcmpz => compare_double_zero(s, fpscr, false, double_d(op)),
+        Operation::Fcmpez => compare_double_zero(s, fpscr, true, double_d(op)),
+        Operation::Fcvt => { narrow_double(s, fpscr, single_d(op), double_m(op)) }
+        Operation::Fuito => { from_integer_double(s, fpscr, false, double_d(op), single_m(op)) }
+        Operation::Fsito => { from_integer_double(s, fpscr, true, double_d(op), single_m(op)) }
+        Operation::Ftoui => { round_double(s, fpscr, false, single_d(op), double_m(op)) }
+        Operation::Ftouiz => { truncate_double(s, fpscr, false, single_d(op), double_m(op)) }
+        Operation::Ftosi => { round_double(s, fpscr, true, single_d(op), double_m(op)) }
+        Operation::Ftosiz => { truncate_double(s, fpscr, true, single_d(op), double_m(op)) }
         _ => fpscr, // no unary word
     }
 }

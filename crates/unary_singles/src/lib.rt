@@ -13,6 +13,7 @@ use decoding::fields::double_d;
 use decoding::fields::single_d;
 use decoding::fields::single_m;
 use decoding::operation::Operation;
+use machine::place::control_of;
 use steps::compare::compare_single;
 use steps::compare::compare_single_zero;
 use steps::root::root_single;
@@ -37,40 +38,18 @@ pub fn unary_single(s: &mut [u32; 32], fpscr: u32, op: u32, o: Operation) -> u32
             sign_single(s, SignOperation::Negate, single_d(op), single_m(op));
             fpscr
         }
-        Operation::Fsqrt => {
-            root_single(s, fpscr % 0x1000_0000, single_d(op), single_m(op));
-            fpscr
-        }
-        Operation::Fcmp | Operation::Fcmpe => compare_single(s, fpscr, single_d(op), single_m(op)),
-        Operation::Fcmpz | Operation::Fcmpez => compare_single_zero(s, fpscr, single_d(op)),
-        Operation::Fcvt => {
-            widen_single(s, fpscr, double_d(op), single_m(op));
-            fpscr
-        }
-        Operation::Fuito => {
-            from_integer_single(s, fpscr, false, single_d(op), single_m(op));
-            fpscr
-        }
-        Operation::Fsito => {
-            from_integer_single(s, fpscr, true, single_d(op), single_m(op));
-            fpscr
-        }
-        Operation::Ftoui => {
-            round_single(s, fpscr, false, single_d(op), single_m(op));
-            fpscr
-        }
-        Operation::Ftouiz => {
-            truncate_single(s, false, single_d(op), single_m(op));
-            fpscr
-        }
-        Operation::Ftosi => {
-            round_single(s, fpscr, true, single_d(op), single_m(op));
-            fpscr
-        }
-        Operation::Ftosiz => {
-            truncate_single(s, true, single_d(op), single_m(op));
-            fpscr
-        }
+        Operation::Fsqrt => { root_single(s, control_of(fpscr), fpscr, single_d(op), single_m(op)) }
+        Operation::Fcmp => compare_single(s, fpscr, false, single_d(op), single_m(op)),
+        Operation::Fcmpe => compare_single(s, fpscr, true, single_d(op), single_m(op)),
+        Operation::Fcmpz => compare_single_zero(s, fpscr, false, single_d(op)),
+        Operation::Fcmpez => compare_single_zero(s, fpscr, true, single_d(op)),
+        Operation::Fcvt => { widen_single(s, fpscr, double_d(op), single_m(op)) }
+        Operation::Fuito => { from_integer_single(s, fpscr, false, single_d(op), single_m(op)) }
+        Operation::Fsito => { from_integer_single(s, fpscr, true, single_d(op), single_m(op)) }
+        Operation::Ftoui => { round_single(s, fpscr, false, single_d(op), single_m(op)) }
+        Operation::Ftouiz => { truncate_single(s, fpscr, false, single_d(op), single_m(op)) }
+        Operation::Ftosi => { round_single(s, fpscr, true, single_d(op), single_m(op)) }
+        Operation::Ftosiz => { truncate_single(s, fpscr, true, single_d(op), single_m(op)) }
         _ => fpscr, // no unary word
     }
 }

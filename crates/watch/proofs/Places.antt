@@ -5,9 +5,9 @@ use native.Mathlib.Decide.{decLt}
 use mathlib.Core.Path.{_≡_, sym, _∙_, subst}
 use mathlib.Core.Bool.{true, false, true≢false}
 use lib.ListN.{List·getD-eq-default}
-use Rattle.machine.specs.Place.{Place, single, core, word, flags, control, exc, nzcv, before, number, place}
+use Rattle.machine.specs.Place.{Place, single, core, word, flags, control, exc, nzcv, exceptions, before, number, place}
 use Rattle.meaning.specs.Map.{Map, known}
-use Rattle.place_marks.proofs.Places.{place-single, place-core, place-word, place-flags, place-control, place-exc, place-nzcv}
+use Rattle.place_marks.proofs.Places.{place-single, place-core, place-word, place-flags, place-control, place-exc, place-nzcv, place-exceptions}
 use Rattle.watch.specs.Demand.{Mapped}
 
 -- past the registers nothing is marked known
@@ -31,3 +31,4 @@ module _ (μ : Map) (sized : Mapped μ) (P : Place → Type 0) (f : (n : ℕ) �
   by-place control h = at (number control) control place-control h
   by-place exc h = at (number exc) exc place-exc h
   by-place nzcv h = at (number nzcv) nzcv place-nzcv h
+  by-place exceptions h = at (number exceptions) exceptions place-exceptions h

@@ -10,7 +10,7 @@ use lib.ListN.{length}
 use Rattle.machine.specs.declared.Machine.{Machine}
 use Rattle.machine.specs.declared.Controls.{Controls}
 use Rattle.machine.specs.Machine.{assembled, controlsOf}
-use Rattle.machine.specs.Place.{state}
+use Rattle.machine.specs.Place.{state, before}
 use Rattle.meaning.specs.Map.{Map}
 use Rattle.meaning.specs.Tree.{Tree}
 use Rattle.limits.specs.Marks.{onesOf}
@@ -28,13 +28,13 @@ use Rattle.meaning.specs.Run as R
 
 -- an answer of these parts: the bits above the last place are cut off, and do not count
 pub answered-as : (a : Watched) (stop : Stop) (count : ℕ) (m : Machine) (k n : ℕ) (v w : List ℕ) (e : R.Watched)
-    → (a .stop ≡ stop) × (a .count ≡ count) × (a .machine ≡ m) × (a .marks ≡ k % 2 ^ 52) × (a .known ≡ knownBefore (marksOf k) + n)
+    → (a .stop ≡ stop) × (a .count ≡ count) × (a .machine ≡ m) × (a .marks ≡ k % 2 ^ before) × (a .known ≡ knownBefore (marksOf k) + n)
     → n ≡ onesOf w → R.endedWith (state m v) (mapIn k w) count (stopOf stop) ≡ e
-    → (answered a v w ≡ reply e) × (a .marks < 2 ^ 52) × (a .known ≡ knownPlaces (mapIn (a .marks) w))
+    → (answered a v w ≡ reply e) × (a .marks < 2 ^ before) × (a .known ≡ knownPlaces (mapIn (a .marks) w))
 answered-as a stop count m k n v w e p h q = (
-  rw (p .0, p .1, p .2, p .3, same-map (k % 2 ^ 52) k w (mod-mod k (2 ^ 52))) (ap reply q),
-  rw (p .3) (mod-lt k (pow-pos 52)),
-  rw (p .4, p .3, same-map (k % 2 ^ 52) k w (mod-mod k (2 ^ 52))) (places-counted k w (knownBefore (marksOf k)) n refl h),
+  rw (p .0, p .1, p .2, p .3, same-map (k % 2 ^ before) k w (mod-mod k (2 ^ before))) (ap reply q),
+  rw (p .3) (mod-lt k (pow-pos before)),
+  rw (p .4, p .3, same-map (k % 2 ^ before) k w (mod-mod k (2 ^ before))) (places-counted k w (knownBefore (marksOf k)) n refl h),
 )
 
 -- a number of marks is far from the greatest number

@@ -2,7 +2,7 @@
 ghost use mathlib.Core.Path.{_≡_};
 ghost use mathlib.Core.Bool.{false};
 ghost use Prim.Native.Nat.{_+_, _%_, _^_, _<_};
-ghost use Rattle.machine.specs.Place.{state};
+ghost use Rattle.machine.specs.Place.{state, before};
 ghost use Rattle.machine.specs.Machine.{assembled};
 ghost use Rattle.meaning.specs.Run as R;
 ghost use Rattle.decoding.specs.Table.{operationTable};
@@ -81,7 +81,7 @@ fn watch_words(
     list: &[u32],
 ) -> Watched
     requires { ⌜ (machine .thumb ≡ false) × (now table ≡ operationTable) × (ones ≡ onesOf (now «window_marks»)) ⌝ }
-    ensures { λ a. ⌜ (answered a (now (window .exit)) (now («window_marks» .exit)) ≡ reply (R.watch (meaning base) (now (list .entry)) 0 (state machine (now (window .entry))) (mapIn marks (now («window_marks» .entry))))) × (a .marks < 2 ^ 52) × (a .known ≡ knownPlaces (mapIn (a .marks) (now («window_marks» .exit)))) ⌝ }
+    ensures { λ a. ⌜ (answered a (now (window .exit)) (now («window_marks» .exit)) ≡ reply (R.watch (meaning base) (now (list .entry)) 0 (state machine (now (window .entry))) (mapIn marks (now («window_marks» .entry))))) × (a .marks < 2 ^ before) × (a .known ≡ knownPlaces (mapIn (a .marks) (now («window_marks» .exit)))) ⌝ }
 {
     let begun = Progress::new(machine);
     let mut s = begun.s;
@@ -129,7 +129,7 @@ fn watch_words(
 // Hands the machine and the marks back with the stop and the count, and the known places before the window and in it. No bit stays above the last place.
 fn ended(left: Progress, marks: u64, words: usize, stop: Stop, count: usize) -> Watched
     requires { ⌜ words < 2 ^ 63 ⌝ }
-    ensures { λ a. ⌜ (a .stop ≡ stop) × (a .count ≡ count) × (a .machine ≡ assembled (left .s) (left .r) (left .controls) false) × (a .marks ≡ marks % 2 ^ 52) × (a .known ≡ knownBefore (marksOf marks) + words) ⌝ }
+    ensures { λ a. ⌜ (a .stop ≡ stop) × (a .count ≡ count) × (a .machine ≡ assembled (left .s) (left .r) (left .controls) false) × (a .marks ≡ marks % 2 ^ before) × (a .known ≡ knownBefore (marksOf marks) + words) ⌝ }
 {
     let machine = left.machine();
     let known = known_before(marks) + words;
@@ -137,7 +137,7 @@ fn ended(left: Progress, marks: u64, words: usize, stop: Stop, count: usize) -> 
         stop,
         count,
         machine,
-        marks: marks % 0x10_0000_0000_0000,
+        marks: marks % 0x20_0000_0000_0000,
         known,
     }
 }

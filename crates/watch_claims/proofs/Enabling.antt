@@ -23,7 +23,7 @@ abbrev pub exemptWords : List ℕ
 exemptWords = 0xEEF01A10 ∷ 0xEEE01A10 ∷ 0xEEF81A10 ∷ 0xEEE81A10 ∷ 0xEEF0FA10 ∷ 0xEEF8FA10 ∷ 0xEEF81B10 ∷ 0xEEE8FB10 ∷ []
 
 abbrev pub all : Map
-all = mapOf (record { s = replicate 32 true; r = replicate 16 true; flags = true; control = true; exc = true; nzcv = true }) []
+all = mapOf (record { s = replicate 32 true; r = replicate 16 true; flags = true; control = true; exc = true; nzcv = true; exceptions = true }) []
 
 abbrev pub without : ℕ → Map → Map
 without p μ = mark μ (place p) false

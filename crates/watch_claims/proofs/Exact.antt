@@ -1,6 +1,6 @@
 -- Exactness of the mark rules, through the definition: for each operation in both widths, and for transfers, pairs, loads and stores over a window of
--- four words from 0 on, document 01's rule gives sources for targets. With just the sources known and what the word asks for, and with any one source unknown, the map that the word leaves is
--- the rule's, and no other mark changes.
+-- four words from 0 on, document 01's rule, and 2026-07's of place 52, gives sources for targets. With just the sources known and what the word asks
+-- for, and with any one source unknown, the map that the word leaves is the rule's, and no other mark changes.
 use Prim.Native.Nat.{ℕ}
 use mathlib.Core.Path.{_≡_, refl}
 use mathlib.Core.Bool.{Bool, true, false, cond}
@@ -28,6 +28,14 @@ pub record Rule : Type 0 where
 abbrev pub from : List ℕ → List ℕ → Rule
 from s t = record { sources = s; targets = t }
 
+-- the cumulative exception bits are known after a number operation just when they were and all that is read for them is; after a move they stay as they were
+abbrev pub raises : List ℕ → Rule
+raises s = from (52 ∷ s) (52 ∷ [])
+
+-- a number operation that needs the same places for both
+abbrev pub computes : List ℕ → List ℕ → List Rule
+computes s t = from s t ∷ raises s ∷ []
+
 -- a word, the places that it asks for, and its rules
 pub record Row : Type 0 where
   pub word : ℕ
@@ -40,7 +48,7 @@ row w a r = record { word = w; asks = a; rules = r }
 -- ---- the rules on maps
 
 pub nothingKnown : Map
-nothingKnown = mapOf (record { s = replicate 32 false; r = replicate 16 false; flags = false; control = false; exc = false; nzcv = false }) (0 ∷ 0 ∷ 0 ∷ 0 ∷ [])
+nothingKnown = mapOf (record { s = replicate 32 false; r = replicate 16 false; flags = false; control = false; exc = false; nzcv = false; exceptions = false }) (0 ∷ 0 ∷ 0 ∷ 0 ∷ [])
 
 pub marks : List ℕ → Bool → Map → Map
 marks [] b μ = μ
@@ -75,57 +83,57 @@ should x = map (λ μ. ruled μ (x .rules) μ) (tried x)
 
 pub rows : List Row
 rows =
-    row 0xEE021AA3 (50 ∷ 49 ∷ []) (from (5 ∷ 7 ∷ 2 ∷ []) (2 ∷ []) ∷ [])
-    ∷ row 0xEE021AE3 (50 ∷ 49 ∷ []) (from (5 ∷ 7 ∷ 2 ∷ []) (2 ∷ []) ∷ [])
-    ∷ row 0xEE121AA3 (50 ∷ 49 ∷ []) (from (5 ∷ 7 ∷ 2 ∷ []) (2 ∷ []) ∷ [])
-    ∷ row 0xEE121AE3 (50 ∷ 49 ∷ []) (from (5 ∷ 7 ∷ 2 ∷ []) (2 ∷ []) ∷ [])
-    ∷ row 0xEE221AA3 (50 ∷ 49 ∷ []) (from (5 ∷ 7 ∷ []) (2 ∷ []) ∷ [])
-    ∷ row 0xEE221AE3 (50 ∷ 49 ∷ []) (from (5 ∷ 7 ∷ []) (2 ∷ []) ∷ [])
-    ∷ row 0xEE321AA3 (50 ∷ 49 ∷ []) (from (5 ∷ 7 ∷ []) (2 ∷ []) ∷ [])
-    ∷ row 0xEE321AE3 (50 ∷ 49 ∷ []) (from (5 ∷ 7 ∷ []) (2 ∷ []) ∷ [])
-    ∷ row 0xEE821AA3 (50 ∷ 49 ∷ []) (from (5 ∷ 7 ∷ []) (2 ∷ []) ∷ [])
-    ∷ row 0xEEB01A63 (50 ∷ 49 ∷ []) (from (7 ∷ []) (2 ∷ []) ∷ [])
-    ∷ row 0xEEB01AE3 (50 ∷ 49 ∷ []) (from (7 ∷ []) (2 ∷ []) ∷ [])
-    ∷ row 0xEEB11A63 (50 ∷ 49 ∷ []) (from (7 ∷ []) (2 ∷ []) ∷ [])
-    ∷ row 0xEEB11AE3 (50 ∷ 49 ∷ []) (from (7 ∷ []) (2 ∷ []) ∷ [])
-    ∷ row 0xEEB41A63 (50 ∷ []) (from (2 ∷ 7 ∷ []) (48 ∷ []) ∷ [])
-    ∷ row 0xEEB41AE3 (50 ∷ []) (from (2 ∷ 7 ∷ []) (48 ∷ []) ∷ [])
-    ∷ row 0xEEB51A63 (50 ∷ []) (from (2 ∷ []) (48 ∷ []) ∷ [])
-    ∷ row 0xEEB51AE3 (50 ∷ []) (from (2 ∷ []) (48 ∷ []) ∷ [])
-    ∷ row 0xEEB71AE3 (50 ∷ []) (from (49 ∷ 7 ∷ []) (2 ∷ 3 ∷ []) ∷ [])
-    ∷ row 0xEEB81A63 (50 ∷ []) (from (49 ∷ 7 ∷ []) (2 ∷ []) ∷ [])
-    ∷ row 0xEEB81AE3 (50 ∷ []) (from (49 ∷ 7 ∷ []) (2 ∷ []) ∷ [])
-    ∷ row 0xEEBC1A63 (50 ∷ []) (from (49 ∷ 7 ∷ []) (2 ∷ []) ∷ [])
-    ∷ row 0xEEBC1AE3 (50 ∷ []) (from (7 ∷ []) (2 ∷ []) ∷ [])
-    ∷ row 0xEEBD1A63 (50 ∷ []) (from (49 ∷ 7 ∷ []) (2 ∷ []) ∷ [])
-    ∷ row 0xEEBD1AE3 (50 ∷ []) (from (7 ∷ []) (2 ∷ []) ∷ [])
-    ∷ row 0xEE021B03 (50 ∷ 49 ∷ []) (from (4 ∷ 5 ∷ 6 ∷ 7 ∷ 2 ∷ 3 ∷ []) (2 ∷ 3 ∷ []) ∷ [])
-    ∷ row 0xEE021B43 (50 ∷ 49 ∷ []) (from (4 ∷ 5 ∷ 6 ∷ 7 ∷ 2 ∷ 3 ∷ []) (2 ∷ 3 ∷ []) ∷ [])
-    ∷ row 0xEE121B03 (50 ∷ 49 ∷ []) (from (4 ∷ 5 ∷ 6 ∷ 7 ∷ 2 ∷ 3 ∷ []) (2 ∷ 3 ∷ []) ∷ [])
-    ∷ row 0xEE121B43 (50 ∷ 49 ∷ []) (from (4 ∷ 5 ∷ 6 ∷ 7 ∷ 2 ∷ 3 ∷ []) (2 ∷ 3 ∷ []) ∷ [])
-    ∷ row 0xEE221B03 (50 ∷ 49 ∷ []) (from (4 ∷ 5 ∷ 6 ∷ 7 ∷ []) (2 ∷ 3 ∷ []) ∷ [])
-    ∷ row 0xEE221B43 (50 ∷ 49 ∷ []) (from (4 ∷ 5 ∷ 6 ∷ 7 ∷ []) (2 ∷ 3 ∷ []) ∷ [])
-    ∷ row 0xEE321B03 (50 ∷ 49 ∷ []) (from (4 ∷ 5 ∷ 6 ∷ 7 ∷ []) (2 ∷ 3 ∷ []) ∷ [])
-    ∷ row 0xEE321B43 (50 ∷ 49 ∷ []) (from (4 ∷ 5 ∷ 6 ∷ 7 ∷ []) (2 ∷ 3 ∷ []) ∷ [])
-    ∷ row 0xEE821B03 (50 ∷ 49 ∷ []) (from (4 ∷ 5 ∷ 6 ∷ 7 ∷ []) (2 ∷ 3 ∷ []) ∷ [])
-    ∷ row 0xEEB01B43 (50 ∷ 49 ∷ []) (from (6 ∷ []) (2 ∷ []) ∷ from (7 ∷ []) (3 ∷ []) ∷ [])
-    ∷ row 0xEEB01BC3 (50 ∷ 49 ∷ []) (from (6 ∷ []) (2 ∷ []) ∷ from (7 ∷ []) (3 ∷ []) ∷ [])
-    ∷ row 0xEEB11B43 (50 ∷ 49 ∷ []) (from (6 ∷ []) (2 ∷ []) ∷ from (7 ∷ []) (3 ∷ []) ∷ [])
-    ∷ row 0xEEB11BC3 (50 ∷ 49 ∷ []) (from (6 ∷ 7 ∷ []) (2 ∷ 3 ∷ []) ∷ [])
-    ∷ row 0xEEB41B43 (50 ∷ []) (from (2 ∷ 3 ∷ 6 ∷ 7 ∷ []) (48 ∷ []) ∷ [])
-    ∷ row 0xEEB41BC3 (50 ∷ []) (from (2 ∷ 3 ∷ 6 ∷ 7 ∷ []) (48 ∷ []) ∷ [])
-    ∷ row 0xEEB51B43 (50 ∷ []) (from (2 ∷ 3 ∷ []) (48 ∷ []) ∷ [])
-    ∷ row 0xEEB51BC3 (50 ∷ []) (from (2 ∷ 3 ∷ []) (48 ∷ []) ∷ [])
-    ∷ row 0xEEB71BC3 (50 ∷ []) (from (49 ∷ 6 ∷ 7 ∷ []) (2 ∷ []) ∷ [])
-    ∷ row 0xEEB81B43 (50 ∷ []) (from (6 ∷ []) (2 ∷ 3 ∷ []) ∷ [])
-    ∷ row 0xEEB81BC3 (50 ∷ []) (from (6 ∷ []) (2 ∷ 3 ∷ []) ∷ [])
-    ∷ row 0xEEBC1B43 (50 ∷ []) (from (49 ∷ 6 ∷ 7 ∷ []) (2 ∷ []) ∷ [])
-    ∷ row 0xEEBC1BC3 (50 ∷ []) (from (6 ∷ 7 ∷ []) (2 ∷ []) ∷ [])
-    ∷ row 0xEEBD1B43 (50 ∷ []) (from (49 ∷ 6 ∷ 7 ∷ []) (2 ∷ []) ∷ [])
-    ∷ row 0xEEBD1BC3 (50 ∷ []) (from (6 ∷ 7 ∷ []) (2 ∷ []) ∷ [])
-    ∷ row 0xEEF12A10 (50 ∷ []) (from (48 ∷ 49 ∷ []) (34 ∷ []) ∷ [])
+    row 0xEE021AA3 (50 ∷ 49 ∷ []) (computes (5 ∷ 7 ∷ 2 ∷ []) (2 ∷ []))
+    ∷ row 0xEE021AE3 (50 ∷ 49 ∷ []) (computes (5 ∷ 7 ∷ 2 ∷ []) (2 ∷ []))
+    ∷ row 0xEE121AA3 (50 ∷ 49 ∷ []) (computes (5 ∷ 7 ∷ 2 ∷ []) (2 ∷ []))
+    ∷ row 0xEE121AE3 (50 ∷ 49 ∷ []) (computes (5 ∷ 7 ∷ 2 ∷ []) (2 ∷ []))
+    ∷ row 0xEE221AA3 (50 ∷ 49 ∷ []) (computes (5 ∷ 7 ∷ []) (2 ∷ []))
+    ∷ row 0xEE221AE3 (50 ∷ 49 ∷ []) (computes (5 ∷ 7 ∷ []) (2 ∷ []))
+    ∷ row 0xEE321AA3 (50 ∷ 49 ∷ []) (computes (5 ∷ 7 ∷ []) (2 ∷ []))
+    ∷ row 0xEE321AE3 (50 ∷ 49 ∷ []) (computes (5 ∷ 7 ∷ []) (2 ∷ []))
+    ∷ row 0xEE821AA3 (50 ∷ 49 ∷ []) (computes (5 ∷ 7 ∷ []) (2 ∷ []))
+    ∷ row 0xEEB01A63 (50 ∷ 49 ∷ []) (from (7 ∷ []) (2 ∷ []) ∷ raises [] ∷ [])
+    ∷ row 0xEEB01AE3 (50 ∷ 49 ∷ []) (from (7 ∷ []) (2 ∷ []) ∷ raises [] ∷ [])
+    ∷ row 0xEEB11A63 (50 ∷ 49 ∷ []) (from (7 ∷ []) (2 ∷ []) ∷ raises [] ∷ [])
+    ∷ row 0xEEB11AE3 (50 ∷ 49 ∷ []) (computes (7 ∷ []) (2 ∷ []))
+    ∷ row 0xEEB41A63 (50 ∷ []) (computes (2 ∷ 7 ∷ []) (48 ∷ []))
+    ∷ row 0xEEB41AE3 (50 ∷ []) (computes (2 ∷ 7 ∷ []) (48 ∷ []))
+    ∷ row 0xEEB51A63 (50 ∷ []) (computes (2 ∷ []) (48 ∷ []))
+    ∷ row 0xEEB51AE3 (50 ∷ []) (computes (2 ∷ []) (48 ∷ []))
+    ∷ row 0xEEB71AE3 (50 ∷ []) (from (49 ∷ 7 ∷ []) (2 ∷ 3 ∷ []) ∷ raises (7 ∷ []) ∷ [])
+    ∷ row 0xEEB81A63 (50 ∷ []) (from (49 ∷ 7 ∷ []) (2 ∷ []) ∷ raises (7 ∷ []) ∷ [])
+    ∷ row 0xEEB81AE3 (50 ∷ []) (from (49 ∷ 7 ∷ []) (2 ∷ []) ∷ raises (7 ∷ []) ∷ [])
+    ∷ row 0xEEBC1A63 (50 ∷ []) (computes (49 ∷ 7 ∷ []) (2 ∷ []))
+    ∷ row 0xEEBC1AE3 (50 ∷ []) (computes (7 ∷ []) (2 ∷ []))
+    ∷ row 0xEEBD1A63 (50 ∷ []) (computes (49 ∷ 7 ∷ []) (2 ∷ []))
+    ∷ row 0xEEBD1AE3 (50 ∷ []) (computes (7 ∷ []) (2 ∷ []))
+    ∷ row 0xEE021B03 (50 ∷ 49 ∷ []) (computes (4 ∷ 5 ∷ 6 ∷ 7 ∷ 2 ∷ 3 ∷ []) (2 ∷ 3 ∷ []))
+    ∷ row 0xEE021B43 (50 ∷ 49 ∷ []) (computes (4 ∷ 5 ∷ 6 ∷ 7 ∷ 2 ∷ 3 ∷ []) (2 ∷ 3 ∷ []))
+    ∷ row 0xEE121B03 (50 ∷ 49 ∷ []) (computes (4 ∷ 5 ∷ 6 ∷ 7 ∷ 2 ∷ 3 ∷ []) (2 ∷ 3 ∷ []))
+    ∷ row 0xEE121B43 (50 ∷ 49 ∷ []) (computes (4 ∷ 5 ∷ 6 ∷ 7 ∷ 2 ∷ 3 ∷ []) (2 ∷ 3 ∷ []))
+    ∷ row 0xEE221B03 (50 ∷ 49 ∷ []) (computes (4 ∷ 5 ∷ 6 ∷ 7 ∷ []) (2 ∷ 3 ∷ []))
+    ∷ row 0xEE221B43 (50 ∷ 49 ∷ []) (computes (4 ∷ 5 ∷ 6 ∷ 7 ∷ []) (2 ∷ 3 ∷ []))
+    ∷ row 0xEE321B03 (50 ∷ 49 ∷ []) (computes (4 ∷ 5 ∷ 6 ∷ 7 ∷ []) (2 ∷ 3 ∷ []))
+    ∷ row 0xEE321B43 (50 ∷ 49 ∷ []) (computes (4 ∷ 5 ∷ 6 ∷ 7 ∷ []) (2 ∷ 3 ∷ []))
+    ∷ row 0xEE821B03 (50 ∷ 49 ∷ []) (computes (4 ∷ 5 ∷ 6 ∷ 7 ∷ []) (2 ∷ 3 ∷ []))
+    ∷ row 0xEEB01B43 (50 ∷ 49 ∷ []) (from (6 ∷ []) (2 ∷ []) ∷ from (7 ∷ []) (3 ∷ []) ∷ raises [] ∷ [])
+    ∷ row 0xEEB01BC3 (50 ∷ 49 ∷ []) (from (6 ∷ []) (2 ∷ []) ∷ from (7 ∷ []) (3 ∷ []) ∷ raises [] ∷ [])
+    ∷ row 0xEEB11B43 (50 ∷ 49 ∷ []) (from (6 ∷ []) (2 ∷ []) ∷ from (7 ∷ []) (3 ∷ []) ∷ raises [] ∷ [])
+    ∷ row 0xEEB11BC3 (50 ∷ 49 ∷ []) (computes (6 ∷ 7 ∷ []) (2 ∷ 3 ∷ []))
+    ∷ row 0xEEB41B43 (50 ∷ []) (computes (2 ∷ 3 ∷ 6 ∷ 7 ∷ []) (48 ∷ []))
+    ∷ row 0xEEB41BC3 (50 ∷ []) (computes (2 ∷ 3 ∷ 6 ∷ 7 ∷ []) (48 ∷ []))
+    ∷ row 0xEEB51B43 (50 ∷ []) (computes (2 ∷ 3 ∷ []) (48 ∷ []))
+    ∷ row 0xEEB51BC3 (50 ∷ []) (computes (2 ∷ 3 ∷ []) (48 ∷ []))
+    ∷ row 0xEEB71BC3 (50 ∷ []) (computes (49 ∷ 6 ∷ 7 ∷ []) (2 ∷ []))
+    ∷ row 0xEEB81B43 (50 ∷ []) (computes (6 ∷ []) (2 ∷ 3 ∷ []))
+    ∷ row 0xEEB81BC3 (50 ∷ []) (computes (6 ∷ []) (2 ∷ 3 ∷ []))
+    ∷ row 0xEEBC1B43 (50 ∷ []) (computes (49 ∷ 6 ∷ 7 ∷ []) (2 ∷ []))
+    ∷ row 0xEEBC1BC3 (50 ∷ []) (computes (6 ∷ 7 ∷ []) (2 ∷ []))
+    ∷ row 0xEEBD1B43 (50 ∷ []) (computes (49 ∷ 6 ∷ 7 ∷ []) (2 ∷ []))
+    ∷ row 0xEEBD1BC3 (50 ∷ []) (computes (6 ∷ 7 ∷ []) (2 ∷ []))
+    ∷ row 0xEEF12A10 (50 ∷ []) (from (48 ∷ 49 ∷ 52 ∷ []) (34 ∷ []) ∷ [])
     ∷ row 0xEEF1FA10 (50 ∷ []) (from (48 ∷ []) (51 ∷ []) ∷ [])
-    ∷ row 0xEEE12A10 (50 ∷ []) (from (34 ∷ []) (48 ∷ []) ∷ from (34 ∷ []) (49 ∷ []) ∷ [])
+    ∷ row 0xEEE12A10 (50 ∷ []) (from (34 ∷ []) (48 ∷ []) ∷ from (34 ∷ []) (49 ∷ []) ∷ from (34 ∷ []) (52 ∷ []) ∷ [])
     ∷ row 0xEEF82A10 ([]) (from (50 ∷ []) (34 ∷ []) ∷ [])
     ∷ row 0xEEE82A10 ([]) (from (34 ∷ []) (50 ∷ []) ∷ [])
     ∷ row 0xEEF02A10 ([]) (from ([]) (34 ∷ []) ∷ [])
@@ -146,13 +154,13 @@ rows =
     ∷ row 0xEC432A13 (50 ∷ []) (from (34 ∷ []) (6 ∷ []) ∷ from (35 ∷ []) (7 ∷ []) ∷ [])
     ∷ row 0xEC532B13 (50 ∷ []) (from (6 ∷ []) (34 ∷ []) ∷ from (7 ∷ []) (35 ∷ []) ∷ [])
     ∷ row 0xEC432B13 (50 ∷ []) (from (34 ∷ []) (6 ∷ []) ∷ from (35 ∷ []) (7 ∷ []) ∷ [])
-    ∷ row 0xED911A01 (50 ∷ 33 ∷ []) (from (53 ∷ []) (2 ∷ []) ∷ [])
-    ∷ row 0xED811A01 (50 ∷ 33 ∷ []) (from (2 ∷ []) (53 ∷ []) ∷ [])
-    ∷ row 0xED911B00 (50 ∷ 33 ∷ []) (from (52 ∷ []) (2 ∷ []) ∷ from (53 ∷ []) (3 ∷ []) ∷ [])
-    ∷ row 0xED811B00 (50 ∷ 33 ∷ []) (from (2 ∷ []) (52 ∷ []) ∷ from (3 ∷ []) (53 ∷ []) ∷ [])
-    ∷ row 0xEC911A03 (50 ∷ 33 ∷ []) (from (52 ∷ []) (2 ∷ []) ∷ from (53 ∷ []) (3 ∷ []) ∷ from (54 ∷ []) (4 ∷ []) ∷ [])
-    ∷ row 0xEC811A03 (50 ∷ 33 ∷ []) (from (2 ∷ []) (52 ∷ []) ∷ from (3 ∷ []) (53 ∷ []) ∷ from (4 ∷ []) (54 ∷ []) ∷ [])
-    ∷ row 0xECB11B04 (50 ∷ 33 ∷ []) (from (52 ∷ []) (2 ∷ []) ∷ from (53 ∷ []) (3 ∷ []) ∷ from (54 ∷ []) (4 ∷ []) ∷ from (55 ∷ []) (5 ∷ []) ∷ [])
+    ∷ row 0xED911A01 (50 ∷ 33 ∷ []) (from (54 ∷ []) (2 ∷ []) ∷ [])
+    ∷ row 0xED811A01 (50 ∷ 33 ∷ []) (from (2 ∷ []) (54 ∷ []) ∷ [])
+    ∷ row 0xED911B00 (50 ∷ 33 ∷ []) (from (53 ∷ []) (2 ∷ []) ∷ from (54 ∷ []) (3 ∷ []) ∷ [])
+    ∷ row 0xED811B00 (50 ∷ 33 ∷ []) (from (2 ∷ []) (53 ∷ []) ∷ from (3 ∷ []) (54 ∷ []) ∷ [])
+    ∷ row 0xEC911A03 (50 ∷ 33 ∷ []) (from (53 ∷ []) (2 ∷ []) ∷ from (54 ∷ []) (3 ∷ []) ∷ from (55 ∷ []) (4 ∷ []) ∷ [])
+    ∷ row 0xEC811A03 (50 ∷ 33 ∷ []) (from (2 ∷ []) (53 ∷ []) ∷ from (3 ∷ []) (54 ∷ []) ∷ from (4 ∷ []) (55 ∷ []) ∷ [])
+    ∷ row 0xECB11B04 (50 ∷ 33 ∷ []) (from (53 ∷ []) (2 ∷ []) ∷ from (54 ∷ []) (3 ∷ []) ∷ from (55 ∷ []) (4 ∷ []) ∷ from (56 ∷ []) (5 ∷ []) ∷ [])
     ∷ row 0xED911A10 (50 ∷ 33 ∷ []) (from ([]) (2 ∷ []) ∷ [])
     ∷ []
 

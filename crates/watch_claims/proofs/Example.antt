@@ -22,7 +22,7 @@ use Rattle.watch.specs.Watch.{Reply, watchReply}
 
 -- with no window: all known, and with the places of a list unknown
 abbrev pub allKnown : Map
-allKnown = mapOf (record { s = replicate 32 true; r = replicate 16 true; flags = true; control = true; exc = true; nzcv = true }) []
+allKnown = mapOf (record { s = replicate 32 true; r = replicate 16 true; flags = true; control = true; exc = true; nzcv = true; exceptions = true }) []
 
 abbrev pub allBut : List ℕ → Map
 allBut [] = allKnown
@@ -37,7 +37,7 @@ answer = watchReply 0 words (state newMachine []) (allBut (0 ∷ []))
 pub record Claim : Type 0 where
   pub stops : answer .report ≡ report (hangs 51)
   pub counts : answer .count ≡ 3
-  pub marks : answer .map ≡ allBut (0 ∷ 48 ∷ 51 ∷ [])
+  pub marks : answer .map ≡ allBut (0 ∷ 48 ∷ 51 ∷ 52 ∷ [])
 
 pub claim : Claim
 unfolding exempt enabled watchReply watchLimit bitsOnly runLimit windowLimit R.watch R.followWith watched meaning classTree conditioned dataTree operationTree operationOf operationBy extensionBy arithmetics transferTree after afterMarks stepOf secondOf place

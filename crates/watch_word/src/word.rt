@@ -172,7 +172,7 @@ fn watch_transfer(s: &mut [u32; 32], r: &mut [u32; 16], x: Controls, marks: u64,
     }
 }
 
-// Data processing hangs on r15 where it is Undefined, and on FPSCR 27:0 where it steps. A scalar, where LEN is 0, needs no loop, for its marks neither.
+// Data processing hangs on r15 where it is Undefined, and on FPSCR 27:5 where it steps. A scalar, where LEN is 0, needs no loop, for its marks neither.
 fn watch_data(
     table: &[u8; 1024],
     s: &mut [u32; 32],
@@ -235,11 +235,11 @@ fn watch_scalar(s: &mut [u32; 32], x: Controls, marks: u64, n: u8, op: u32) -> S
     let fpscr = x.fpscr;
     if n < 10 {
         if bit(op, 8) {
-            let known = watched_double(s, marks, fpscr, n, op);
-            return done(x, fpscr, known);
+            let y = watched_double(s, marks, fpscr, n, op);
+            return done(x, y.fpscr, y.marks);
         }
-        let known = watched_single(s, marks, fpscr, n, op);
-        return done(x, fpscr, known);
+        let y = watched_single(s, marks, fpscr, n, op);
+        return done(x, y.fpscr, y.marks);
     }
     if bit(op, 8) {
         let y = watch_double(s, marks, fpscr, op, numbered(n));

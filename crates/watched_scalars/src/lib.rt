@@ -21,7 +21,7 @@ use decoding::operation::numbered;
 use processing_marks::vector::mark_sum_double;
 use processing_marks::vector::mark_sum_single;
 
-// FPSCR and the marks after a word that may change both: a unary word, compare or conversion.
+// FPSCR and the marks after a word.
 pub struct Watched {
     pub fpscr: u32,
     pub marks: u64,
@@ -33,34 +33,32 @@ pub fn after(fpscr: u32, marks: u64) -> Watched
     Watched { fpscr, marks }
 }
 
-pub fn watched_single(s: &mut [u32; 32], marks: u64, fpscr: u32, number: u8, op: u32) -> u64
+pub fn watched_single(s: &mut [u32; 32], marks: u64, fpscr: u32, number: u8, op: u32) -> Watched
     requires { ⌜ (0 < number) × (number < 10) × (fpscr / 2 ^ 16 % 8 ≡ 0) ⌝ }
-    ensures { λ y. ⌜ Handled (namedTree binary32 op (operationNumbered number)) op (now (s .entry)) fpscr (now (s .exit)) (Done fpscr) × Marked (namedTree binary32 op (operationNumbered number)) fpscr marks y ⌝ }
+    ensures { λ y. ⌜ Handled (namedTree binary32 op (operationNumbered number)) op (now (s .entry)) fpscr (now (s .exit)) (Done (y .fpscr)) × Marked (namedTree binary32 op (operationNumbered number)) fpscr marks (y .marks) ⌝ }
 {
     let kind = arithmetic_of(numbered(number));
     let d = single_d(op);
     let n = single_n(op);
     let m = single_m(op);
     let known = mark_sum_single(marks, kind, d, n, m);
-    if quick_single(s, fpscr % 0x1000_0000, kind, d, n, m) {
-        return known;
+    if quick_single(s, fpscr, kind, number < 5, d, n, m) {
+        return after(fpscr, known);
     }
-    rounded_single(s, fpscr % 0x1000_0000, kind, d, n, m);
-    known
+    after(rounded_single(s, fpscr, kind, d, n, m), known)
 }
 
-pub fn watched_double(s: &mut [u32; 32], marks: u64, fpscr: u32, number: u8, op: u32) -> u64
+pub fn watched_double(s: &mut [u32; 32], marks: u64, fpscr: u32, number: u8, op: u32) -> Watched
     requires { ⌜ (0 < number) × (number < 10) × (fpscr / 2 ^ 16 % 8 ≡ 0) ⌝ }
-    ensures { λ y. ⌜ Handled (namedTree binary64 op (operationNumbered number)) op (now (s .entry)) fpscr (now (s .exit)) (Done fpscr) × Marked (namedTree binary64 op (operationNumbered number)) fpscr marks y ⌝ }
+    ensures { λ y. ⌜ Handled (namedTree binary64 op (operationNumbered number)) op (now (s .entry)) fpscr (now (s .exit)) (Done (y .fpscr)) × Marked (namedTree binary64 op (operationNumbered number)) fpscr marks (y .marks) ⌝ }
 {
     let kind = arithmetic_of(numbered(number));
     let d = double_d(op);
     let n = double_n(op);
     let m = double_m(op);
     let known = mark_sum_double(marks, kind, d, n, m);
-    if quick_double(s, fpscr % 0x1000_0000, kind, d, n, m) {
-        return known;
+    if quick_double(s, fpscr, kind, number < 5, d, n, m) {
+        return after(fpscr, known);
     }
-    rounded_double(s, fpscr % 0x1000_0000, kind, d, n, m);
-    known
+    after(rounded_double(s, fpscr, kind, d, n, m), known)
 }

@@ -15,6 +15,7 @@ use decoding::fields::double_m;
 use decoding::fields::single_d;
 use decoding::fields::single_m;
 use decoding::operation::Operation;
+use machine::place::control_of;
 use step_marks::mark_compare;
 use step_marks::mark_compare_zero;
 use step_marks::mark_convert;
@@ -49,44 +50,52 @@ pub fn watch_double(s: &mut [u32; 32], marks: u64, fpscr: u32, op: u32, o: Opera
             after(fpscr, mark_sign(marks, true, op))
         }
         Operation::Fsqrt => {
-            root_double(s, fpscr % 0x1000_0000, double_d(op), double_m(op));
-            after(fpscr, mark_root(marks, true, op))
+            let next = root_double(s, control_of(fpscr), fpscr, double_d(op), double_m(op));
+            after(next, mark_root(marks, true, op))
         }
-        Operation::Fcmp | Operation::Fcmpe => {
-            let next = compare_double(s, fpscr, double_d(op), double_m(op));
+        Operation::Fcmp => {
+            let next = compare_double(s, fpscr, false, double_d(op), double_m(op));
             after(next, mark_compare(marks, true, op))
         }
-        Operation::Fcmpz | Operation::Fcmpez => {
-            let next = compare_double_zero(s, fpscr, double_d(op));
+        Operation::Fcmpe => {
+            let next = compare_double(s, fpscr, true, double_d(op), double_m(op));
+            after(next, mark_compare(marks, true, op))
+        }
+        Operation::Fcmpz => {
+            let next = compare_double_zero(s, fpscr, false, double_d(op));
+            after(next, mark_compare_zero(marks, true, op))
+        }
+        Operation::Fcmpez => {
+            let next = compare_double_zero(s, fpscr, true, double_d(op));
             after(next, mark_compare_zero(marks, true, op))
         }
         Operation::Fcvt => {
-            narrow_double(s, fpscr, single_d(op), double_m(op));
-            after(fpscr, mark_convert(marks, true, op))
+            let next = narrow_double(s, fpscr, single_d(op), double_m(op));
+            after(next, mark_convert(marks, true, op))
         }
         Operation::Fuito => {
-            from_integer_double(s, false, double_d(op), single_m(op));
-            after(fpscr, mark_from_integer(marks, true, op))
+            let next = from_integer_double(s, fpscr, false, double_d(op), single_m(op));
+            after(next, mark_from_integer(marks, true, op))
         }
         Operation::Fsito => {
-            from_integer_double(s, true, double_d(op), single_m(op));
-            after(fpscr, mark_from_integer(marks, true, op))
+            let next = from_integer_double(s, fpscr, true, double_d(op), single_m(op));
+            after(next, mark_from_integer(marks, true, op))
         }
         Operation::Ftoui => {
-            round_double(s, fpscr, false, single_d(op), double_m(op));
-            after(fpscr, mark_rounded(marks, true, op))
+            let next = round_double(s, fpscr, false, single_d(op), double_m(op));
+            after(next, mark_rounded(marks, true, op))
         }
         Operation::Ftouiz => {
-            truncate_double(s, false, single_d(op), double_m(op));
-            after(fpscr, mark_truncated(marks, true, op))
+            let next = truncate_double(s, fpscr, false, single_d(op), double_m(op));
+            after(next, mark_truncated(marks, true, op))
         }
         Operation::Ftosi => {
-            round_double(s, fpscr, true, single_d(op), double_m(op));
-            after(fpscr, mark_rounded(marks, true, op))
+            let next = round_double(s, fpscr, true, single_d(op), double_m(op));
+            after(next, mark_rounded(marks, true, op))
         }
         Operation::Ftosiz => {
-            truncate_double(s, true, single_d(op), double_m(op));
-            after(fpscr, mark_truncated(marks, true, op))
+            let next = truncate_double(s, fpscr, true, single_d(op), double_m(op));
+            after(next, mark_truncated(marks, true, op))
         }
         _ => after(fpscr, marks), // no unary word
     }

@@ -14,6 +14,7 @@ use decoding::fields::double_d;
 use decoding::fields::single_d;
 use decoding::fields::single_m;
 use decoding::operation::Operation;
+use machine::place::control_of;
 use step_marks::mark_compare;
 use step_marks::mark_compare_zero;
 use step_marks::mark_convert;
@@ -48,44 +49,52 @@ pub fn watch_single(s: &mut [u32; 32], marks: u64, fpscr: u32, op: u32, o: Opera
             after(fpscr, mark_sign(marks, false, op))
         }
         Operation::Fsqrt => {
-            root_single(s, fpscr % 0x1000_0000, single_d(op), single_m(op));
-            after(fpscr, mark_root(marks, false, op))
+            let next = root_single(s, control_of(fpscr), fpscr, single_d(op), single_m(op));
+            after(next, mark_root(marks, false, op))
         }
-        Operation::Fcmp | Operation::Fcmpe => {
-            let next = compare_single(s, fpscr, single_d(op), single_m(op));
+        Operation::Fcmp => {
+            let next = compare_single(s, fpscr, false, single_d(op), single_m(op));
             after(next, mark_compare(marks, false, op))
         }
-        Operation::Fcmpz | Operation::Fcmpez => {
-            let next = compare_single_zero(s, fpscr, single_d(op));
+        Operation::Fcmpe => {
+            let next = compare_single(s, fpscr, true, single_d(op), single_m(op));
+            after(next, mark_compare(marks, false, op))
+        }
+        Operation::Fcmpz => {
+            let next = compare_single_zero(s, fpscr, false, single_d(op));
+            after(next, mark_compare_zero(marks, false, op))
+        }
+        Operation::Fcmpez => {
+            let next = compare_single_zero(s, fpscr, true, single_d(op));
             after(next, mark_compare_zero(marks, false, op))
         }
         Operation::Fcvt => {
-            widen_single(s, fpscr, double_d(op), single_m(op));
-            after(fpscr, mark_convert(marks, false, op))
+            let next = widen_single(s, fpscr, double_d(op), single_m(op));
+            after(next, mark_convert(marks, false, op))
         }
         Operation::Fuito => {
-            from_integer_single(s, fpscr, false, single_d(op), single_m(op));
-            after(fpscr, mark_from_integer(marks, false, op))
+            let next = from_integer_single(s, fpscr, false, single_d(op), single_m(op));
+            after(next, mark_from_integer(marks, false, op))
         }
         Operation::Fsito => {
-            from_integer_single(s, fpscr, true, single_d(op), single_m(op));
-            after(fpscr, mark_from_integer(marks, false, op))
+            let next = from_integer_single(s, fpscr, true, single_d(op), single_m(op));
+            after(next, mark_from_integer(marks, false, op))
         }
         Operation::Ftoui => {
-            round_single(s, fpscr, false, single_d(op), single_m(op));
-            after(fpscr, mark_rounded(marks, false, op))
+            let next = round_single(s, fpscr, false, single_d(op), single_m(op));
+            after(next, mark_rounded(marks, false, op))
         }
         Operation::Ftouiz => {
-            truncate_single(s, false, single_d(op), single_m(op));
-            after(fpscr, mark_truncated(marks, false, op))
+            let next = truncate_single(s, fpscr, false, single_d(op), single_m(op));
+            after(next, mark_truncated(marks, false, op))
         }
         Operation::Ftosi => {
-            round_single(s, fpscr, true, single_d(op), single_m(op));
-            after(fpscr, mark_rounded(marks, false, op))
+            let next = round_single(s, fpscr, true, single_d(op), single_m(op));
+            after(next, mark_rounded(marks, false, op))
         }
         Operation::Ftosiz => {
-            truncate_single(s, true, single_d(op), single_m(op));
-            after(fpscr, mark_truncated(marks, false, op))
+            let next = truncate_single(s, fpscr, true, single_d(op), single_m(op));
+            after(next, mark_truncated(marks, false, op))
         }
         _ => after(fpscr, marks), // no unary word
     }

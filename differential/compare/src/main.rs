@@ -16,14 +16,15 @@ struct Comparison {
     conditions: u64,
     invalid: u64,
     nans: u64,
+    raised: u64,
     theirs: Vec<u32>,
     ours: Vec<u32>,
     started: Instant,
 }
 
 impl Comparison {
-    /// One call on both sides, in mode 00 where the word rounds; a NaN result is compared as a NaN, and bit for bit where FPSCR bit 25 is set.
-    /// State and window are left as both leave them.
+    /// One call on both sides, in mode 00 where the word rounds; a NaN result is compared as a NaN, and bit for bit where FPSCR bit 25 is set. After a
+    /// number operation FPSCR 4:0 are ours, and of the Rust's only that they are still set. State and window are left as both leave them.
     fn call(&mut self, call: Call, thumb: bool, word: u32, base: u32, state: &mut [u32; STATE], window: &mut [u32]) {
         cases::to_nearest(call, word, state);
         let (mut a, mut b) = (*state, *state);
@@ -41,6 +42,10 @@ impl Comparison {
         if call == Call::DataProcessing && oracle::payload(word, state, &b) {
             self.nans += 1;
             oracle::canonical(&mut b, word, state[49]);
+        }
+        if cases::is_number_operation(call, word) && b[52] & a[52] == a[52] {
+            self.raised += (b[52] != a[52]) as u64;
+            a[52] = b[52];
         }
         let width = match word >> 8 & 15 {
             10 => 0,
@@ -149,15 +154,17 @@ fn invalid(c: &mut Comparison, r: &mut Random) {
     let (mut state, mut answer) = ([0; STATE], [0xA5A5_A5A5; 6]);
     for kind in 0..64 {
         cases::machine(r, &mut state, 0x1000, 4);
-        let (mut words, mut answers, mut thumb) = (52, 5, 0);
-        match kind % 8 {
-            0 => words = r.below(52) as usize,
+        let (mut words, mut answers, mut thumb) = (STATE, 5, 0);
+        match kind % 10 {
+            0 => words = r.below(STATE as u32) as usize,
             1 => answers = r.pick(&[0, 1, 3, 4, 6]),
             2 => thumb = 2 + r.below(100),
             3 => thumb = r.word() | 2,
             4 => state[48] |= 1 << r.below(28),
             5 => state[49] |= 0x1000_0000 << r.below(4),
             6 => state[51] |= 1 << r.below(28),
+            7 => state[49] |= 1 << r.below(5),
+            8 => state[52] |= 0x20 << r.below(27),
             _ => words = 0,
         }
         let (given, mut window) = (state, [r.word(); 3]);
@@ -195,6 +202,7 @@ fn main() {
         conditions: 0,
         invalid: 0,
         nans: 0,
+        raised: 0,
         theirs: Vec::new(),
         ours: Vec::new(),
         started: Instant::now(),
@@ -213,6 +221,7 @@ fn main() {
         if turn % 4 == 0 || r.once_in(2) {
             base = cases::window(&mut r, &mut window);
             cases::machine(&mut r, &mut state, base, window.len());
+            state[52] = r.below(32);
         }
         if turn % 4096 == 0 {
             oracle::fill_rest(&mut c.cpu, || r.word());
@@ -235,6 +244,7 @@ fn main() {
     println!("{:24} {:>12}", "conditions", c.conditions);
     println!("{:24} {:>12}", "255", c.invalid);
     println!("{:24} {:>12}", "NaNs as NaN", c.nans);
+    println!("{:24} {:>12}", "exceptions newly set", c.raised);
     println!("{:24} {:>12}", "calls", c.calls);
     println!("{}", cases::LEFT_OUT);
     println!("{:24} {:>12}", "disagreements", c.wrong);

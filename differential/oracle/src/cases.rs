@@ -159,7 +159,7 @@ const FIXED: [(Call, u32, u32); 46] = [
 ];
 
 /// what a comparison says that it leaves out.
-pub const LEFT_OUT: &str = "left out: transfers of opc1 1 under coprocessor 11, the high halves of doubles (2026-01); words that round, in modes 01, 10 and 11 (2026-06); the bits of a NaN result where FPSCR bit 25 is clear (2026-12)";
+pub const LEFT_OUT: &str = "left out: transfers of opc1 1 under coprocessor 11, the high halves of doubles (2026-01); words that round, in modes 01, 10 and 11 (2026-06); the bits of a NaN result where FPSCR bit 25 is clear (2026-12); which of FPSCR 4:0 a number operation sets (2026-07)";
 
 /// the transfers that a comparison leaves out: opc1 1 under coprocessor 11, where vfp.rs does nothing. The unit moves the high half of a double
 /// there, by the manual (request 2026-01), and its definition judges these words.
@@ -176,6 +176,12 @@ pub fn rounds(call: Call, word: u32) -> bool {
         "FUITO" | "FSITO" => field(word, 8, 4) == 10,
         _ => false,
     }
+}
+
+/// the number operations: they set FPSCR 4:0 by their operands (request 2026-07), and vfp.rs leaves them as they were. Moves, sign changes and what is
+/// Undefined set none.
+pub fn is_number_operation(call: Call, word: u32) -> bool {
+    call == Call::DataProcessing && !matches!(OPERATIONS[operation(call, word)], "FCPY" | "FABS" | "FNEG" | "undefined")
 }
 
 /// mode 00 where the word rounds.
@@ -286,7 +292,7 @@ pub fn window(r: &mut Random, window: &mut Vec<u32>) -> u32 {
     }
 }
 
-/// a machine's 52 words. Core registers point mostly into or near the window.
+/// a machine's 53 words. Core registers point mostly into or near the window.
 pub fn machine(r: &mut Random, state: &mut [u32; STATE], base: u32, words: usize) {
     let wide = r.below(3);
     for i in 0..16 {
@@ -313,7 +319,8 @@ pub fn machine(r: &mut Random, state: &mut [u32; STATE], base: u32, words: usize
         _ => r.below(8) << 16 | r.pick(&[0, 0, 1, 2, 3, 3]) << 20 | r.below(4) << 22 | r.below(4) << 24,
     };
     state[48] = r.word() & 0xF000_0000;
-    state[49] = control & 0x0FFF_FFFF;
+    state[49] = control & 0x0FFF_FFE0;
+    state[52] = control & 0x1F;
     state[50] = r.word();
     state[51] = r.word() & 0xF000_0000;
 }

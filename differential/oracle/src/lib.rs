@@ -1,11 +1,14 @@
-//! The Rust's calls over the states of the C interface: 52 words and a window.
+//! The Rust's calls over the states of the C interface: 53 words and a window. The Rust's FPSCR is one word, places 48, 49 and 52.
 
 pub mod cases;
 
 use zakuro_cpu::{arm, check_condition, vfp, Bus, Exit, Psr};
 pub use zakuro_cpu::Cpu;
 
-pub const STATE: usize = 52;
+pub const STATE: usize = 53;
+
+/// the words of a state in lines and records: those of places 0 to 51, of which place 49 has FPSCR 27:0.
+pub const TOLD: usize = 52;
 
 /// the calls. `Wrapper` is arm::misc's coprocessor_register, which routes by coprocessor.
 #[derive(Clone, Copy, PartialEq, Eq, Debug)]
@@ -93,7 +96,7 @@ pub fn refusal(base: u32, words: usize) -> u32 {
 
 /// whether a state spells a machine: no bit outside a place's own.
 pub fn spells(state: &[u32; STATE]) -> bool {
-    state[48] & 0x0FFF_FFFF == 0 && state[49] & 0xF000_0000 == 0 && state[51] & 0x0FFF_FFFF == 0
+    state[48] & 0x0FFF_FFFF == 0 && state[49] & 0xF000_001F == 0 && state[51] & 0x0FFF_FFFF == 0 && state[52] & !0x1F == 0
 }
 
 fn flags(word: u32) -> [bool; 4] {
@@ -103,7 +106,7 @@ fn flags(word: u32) -> [bool; 4] {
 pub fn unpack(cpu: &mut Cpu, state: &[u32; STATE], thumb: bool) {
     cpu.vfp.regs.copy_from_slice(&state[..32]);
     cpu.regs.copy_from_slice(&state[32..48]);
-    cpu.vfp.fpscr = state[48] | state[49];
+    cpu.vfp.fpscr = state[48] | state[49] | state[52];
     cpu.vfp.fpexc = state[50];
     [cpu.cpsr.n, cpu.cpsr.z, cpu.cpsr.c, cpu.cpsr.v] = flags(state[51]);
     cpu.cpsr.thumb = thumb;
@@ -113,9 +116,26 @@ pub fn pack(cpu: &Cpu, state: &mut [u32; STATE]) {
     state[..32].copy_from_slice(&cpu.vfp.regs);
     state[32..48].copy_from_slice(&cpu.regs);
     state[48] = cpu.vfp.fpscr & 0xF000_0000;
-    state[49] = cpu.vfp.fpscr & 0x0FFF_FFFF;
+    state[49] = cpu.vfp.fpscr & 0x0FFF_FFE0;
     state[50] = cpu.vfp.fpexc;
     state[51] = cpu.cpsr.to_bits() & 0xF000_0000;
+    state[52] = cpu.vfp.fpscr & 0x1F;
+}
+
+/// a state as lines and records have it, and back.
+pub fn told(state: &[u32; STATE]) -> [u32; TOLD] {
+    let mut words = [0; TOLD];
+    words.copy_from_slice(&state[..TOLD]);
+    words[49] |= state[52];
+    words
+}
+
+pub fn of_told(words: &[u32; TOLD]) -> [u32; STATE] {
+    let mut state = [0; STATE];
+    state[..TOLD].copy_from_slice(words);
+    state[49] &= !0x1F;
+    state[52] = words[49] & 0x1F;
+    state
 }
 
 /// the registers that a word of arithmetic, root or width conversion writes, in the word's own decoding.
@@ -211,8 +231,17 @@ pub fn off(word: u32, fpexc: u32) -> bool {
     fpexc >> 30 & 1 == 0 && word & 0x0FE7_0010 != 0x0EE0_0010
 }
 
-/// The run over a list by document 01's rules, each word by the Rust's own call, with canonical NaNs: the kind, and what the answer has.
-pub fn listed(cpu: &mut Cpu, list: &[u32], base: u32, thumb: bool, state: &mut [u32; STATE], window: &mut [u32]) -> (u32, [u32; 5]) {
+/// The run over a list by document 01's rules, each word by the Rust's own call, with canonical NaNs: the kind, and what the answer has. The Rust sets
+/// none of FPSCR 4:0: after a number operation they are what `exceptions` says of the word and the state before it, so that a later read has them.
+pub fn listed(
+    cpu: &mut Cpu,
+    list: &[u32],
+    base: u32,
+    thumb: bool,
+    state: &mut [u32; STATE],
+    window: &mut [u32],
+    exceptions: impl Fn(u32, &[u32; STATE]) -> u32,
+) -> (u32, [u32; 5]) {
     let refused = if list.len() > 4096 { 1 } else { refusal(base, window.len()) };
     if refused != 0 {
         return (100 + refused, [0; 5]);
@@ -236,8 +265,12 @@ pub fn listed(cpu: &mut Cpu, list: &[u32], base: u32, thumb: bool, state: &mut [
                 (false, 1) => Call::Wrapper,
                 _ => Call::DataProcessing,
             };
+            let before = *state;
             let out = run(cpu, call, false, word, base, state, window);
             assert!(!out.moved, "another part of the Cpu moved");
+            if cases::is_number_operation(call, word) {
+                state[52] = exceptions(word, &before);
+            }
             match out.kind {
                 0 => {}
                 3 => return (3, [count + 1, 0, 0, 0, 0]),
@@ -354,7 +387,7 @@ impl Case {
             word: words[2],
             base: words[3],
             window: words[5..5 + count].to_vec(),
-            state: state.try_into().map_err(|_| "the state has not 52 words".to_string())?,
+            state: of_told(state.try_into().map_err(|_| "the state has not 52 words".to_string())?),
         };
         if !spells(&case.state) {
             return Err("a bit outside a place's own".into());
@@ -364,13 +397,13 @@ impl Case {
 
     pub fn line(&self) -> String {
         let head = [self.call.number(), self.thumb as u32, self.word, self.base, self.window.len() as u32];
-        spaced(head.into_iter().chain(self.window.iter().copied()).chain(self.state))
+        spaced(head.into_iter().chain(self.window.iter().copied()).chain(told(&self.state)))
     }
 }
 
 impl Reply {
     /// a line of hexadecimal words: kind, address, word, the 52 words of the state, and the window.
     pub fn line(&self) -> String {
-        spaced([self.kind, self.address, self.word].into_iter().chain(self.state).chain(self.window.iter().copied()))
+        spaced([self.kind, self.address, self.word].into_iter().chain(told(&self.state)).chain(self.window.iter().copied()))
     }
 }

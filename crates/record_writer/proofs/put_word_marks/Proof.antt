@@ -5,6 +5,7 @@ use native.Mathlib.Omega.{arith}
 use mathlib.Core.Path.{_≡_, refl, _∙_}
 use borrow.Author.Needs.{needs}
 use denote.Ref.{now}
+use Rattle.machine.specs.Place.{before}
 use Rattle.records.specs.Number.{written, laid}
 use Rattle.records.specs.Recorded.{marksOfWord}
 use Rattle.record_writer.proofs.Laying.{none-put, one-put, all-put}
@@ -14,11 +15,11 @@ use Rattle.record_writer.proofs.put_word_marks.Tie as tie
 
 abbrev Inv-loop : tie.InvT-loop
 Inv-loop to₀ at marks next₀ rest₀ i₀ to next rest i =
-    (i ≤ 52) × (length to ≡ length to₀) × (next ≡ at + 4 * i) × (rest ≡ marks / 2 ^ i) ×
-    (to ≡ laid to₀ at (written (take i (marksOfWord 52 marks))))
+    (i ≤ before) × (length to ≡ length to₀) × (next ≡ at + 4 * i) × (rest ≡ marks / 2 ^ i) ×
+    (to ≡ laid to₀ at (written (take i (marksOfWord before marks))))
 
 abbrev μ-loop : tie.MeasureT-loop
-μ-loop to₀ at marks next₀ rest₀ i₀ to next rest i = 52 - i
+μ-loop to₀ at marks next₀ rest₀ i₀ to next rest i = before - i
 
 loop-holds : tie.Need-loop-holds Inv-loop μ-loop
 loop-holds c =
@@ -28,7 +29,7 @@ loop-holds c =
       omega arith,
       first-bit (start .args .marks),
       none-put (now (start .args .to)) (start .args .at)
-          (marksOfWord 52 (start .args .marks)) (rw (marks-length 52 (start .args .marks)) (start .pre)),
+          (marksOfWord before (start .args .marks)) (rw (marks-length before (start .args .marks)) (start .pre)),
     )
 
 low-bit-requires : tie.Need-low-bit-requires Inv-loop μ-loop
@@ -54,10 +55,10 @@ loop-again c =
       omega (arith, c₁ .put-number .ensures .0),
       next-mark (start .args .marks)
           (c₃ .loop .i) (c₃ .loop .rest) (c₃ .loop .inv .3),
-      one-put (now (start .args .to)) (start .args .at) (marksOfWord 52 (start .args .marks))
-          (rw (marks-length 52 (start .args .marks)) (start .pre)) (c₃ .loop .to) _ (c₃ .loop .next) (c₃ .loop .i) (c₂ .low-bit .result)
-          (rw (marks-length 52 (start .args .marks)) (omega arith)) (c₃ .loop .inv .2) (c₃ .loop .inv .4)
-          (mark-is 52 (start .args .marks) (c₃ .loop .i) (c₃ .loop .rest) _ (omega arith) (c₃ .loop .inv .3) (c₂ .low-bit .ensures))
+      one-put (now (start .args .to)) (start .args .at) (marksOfWord before (start .args .marks))
+          (rw (marks-length before (start .args .marks)) (start .pre)) (c₃ .loop .to) _ (c₃ .loop .next) (c₃ .loop .i) (c₂ .low-bit .result)
+          (rw (marks-length before (start .args .marks)) (omega arith)) (c₃ .loop .inv .2) (c₃ .loop .inv .4)
+          (mark-is before (start .args .marks) (c₃ .loop .i) (c₃ .loop .rest) _ (omega arith) (c₃ .loop .inv .3) (c₂ .low-bit .ensures))
           (c₁ .put-number .ensures .1),
     )
 
@@ -68,9 +69,9 @@ returns : tie.Need-returns Inv-loop μ-loop
 returns c =
     let start = c .before .before .before in (
       omega arith,
-      all-put (now (start .args .to)) (start .args .at) (marksOfWord 52 (start .args .marks))
-          (rw (marks-length 52 (start .args .marks)) (start .pre)) (c .before .loop .to) (c .before .loop .i)
-          (rw (marks-length 52 (start .args .marks)) (omega arith)) (c .before .loop .inv .4),
+      all-put (now (start .args .to)) (start .args .at) (marksOfWord before (start .args .marks))
+          (rw (marks-length before (start .args .marks)) (start .pre)) (c .before .loop .to) (c .before .loop .i)
+          (rw (marks-length before (start .args .marks)) (omega arith)) (c .before .loop .inv .4),
     )
 
 pub put-word-marks-spec : {M : Type 1} → statement M

@@ -1,13 +1,19 @@
 -- `record_writer::write` meets its contract.
+use Prim.Native.Nat.{ℕ, _+_}
 use native.Mathlib.Omega.{arith}
+use mathlib.Core.Path.{ap}
 use borrow.Author.Needs.{needs}
 use denote.Ref.{now}
+use Rattle.records.specs.Recorded.{layoutBit}
 use Rattle.record_writer.proofs.Laying.{wrote}
 use Rattle.record_writer.proofs.write.Statement.{statement}
 use Rattle.record_writer.proofs.write.Tie as tie
 
 count-requires : tie.Need-count-requires
 count-requires c κs = search needs
+
+add-put-number : tie.Need-add-put-number
+add-put-number c = search needs
 
 put-number-requires : tie.Need-put-number-requires
 put-number-requires c κs = search needs
@@ -86,7 +92,7 @@ returns c =
     let c₁₀ = c₉ .before in
     let start = c₁₀ .before .before .before .before .before .before .before in
     wrote (now (start .args .state)) (now (start .args .window)) (now (start .args .window-marks)) (now (start .args .list)) (now (start .args .to))
-    (start .args .marks) (start .args .base) (start .pre) _ _ _ _ _ _ _ _ _ _ _ _ _ _ _ _ _ _ (c₁₀ .count .ensures) (c₈ .count2 .ensures)
+    (start .args .marks) (start .args .base) (start .pre) _ _ _ _ _ _ _ _ _ _ _ _ _ _ _ _ _ _ (ap (λ (n : ℕ). layoutBit + n) (c₁₀ .count .ensures)) (c₈ .count2 .ensures)
     (c₉ .put-number .ensures) (c₇ .put-number2 .ensures) (c₆ .put-numbers .ensures) (c₅ .put-numbers2 .ensures)
     (c₄ .put-word-marks .ensures) (c₃ .put-marks .ensures) (c₂ .put-number3 .ensures) (c₁ .put-numbers3 .ensures)
 
@@ -95,6 +101,7 @@ write-spec =
     tie.close
     (tie.spec
     count-requires
+    add-put-number
     put-number-requires
     add-count
     count-requires-2

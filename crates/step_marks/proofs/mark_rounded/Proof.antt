@@ -18,4 +18,5 @@ mark-rounded-spec =
     (λ c κs. search needs)
     (λ c κs. search needs)
     (λ c κs. search needs)
-    (λ c sign w. let a = c .before .before .before .before .args in let f = precision (a .double) in c .mark-single .ensures w ∙ rw (c .before .before .before .m-known .ensures w, c .before .before .is-known .ensures w, place-control, c .before .single-d .ensures .0) (sym (round-marks (mapIn (a .marks) w) f sign (regD binary32 (a .op)) (regM f (a .op))))))
+    (λ c κs. search needs)
+    (λ c sign w. let a = c .before .before .before .before .before .args in let f = precision (a .double) in c .mark-raised .ensures w ∙ rw (c .before .mark-single .ensures w, c .before .before .before .before .m-known .ensures w, c .before .before .before .is-known .ensures w, place-control, c .before .before .single-d .ensures .0) (sym (round-marks (mapIn (a .marks) w) f sign (regD binary32 (a .op)) (regM f (a .op))))))

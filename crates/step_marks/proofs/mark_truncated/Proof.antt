@@ -16,4 +16,5 @@ mark-truncated-spec =
     (λ c κs. search needs)
     (λ c κs. search needs)
     (λ c κs. search needs)
-    (λ c sign w. let a = c .before .before .before .args in let f = precision (a .double) in c .mark-single .ensures w ∙ rw (c .before .m-known .ensures w, c .before .before .single-d .ensures .0) (sym (truncate-marks (mapIn (a .marks) w) f sign (regD binary32 (a .op)) (regM f (a .op))))))
+    (λ c κs. search needs)
+    (λ c sign w. let a = c .before .before .before .before .args in let f = precision (a .double) in c .mark-raised .ensures w ∙ rw (c .before .mark-single .ensures w, c .before .before .before .m-known .ensures w, c .before .before .single-d .ensures .0) (sym (truncate-marks (mapIn (a .marks) w) f sign (regD binary32 (a .op)) (regM f (a .op))))))

@@ -1,35 +1,42 @@
 -- `watched_scalars::watched_double` meets its contract.
-use Prim.Native.Nat.{_%_, _^_}
 use denote.Ref.{now}
 use lib.Ieee.{binary64}
 use mathlib.Core.Path.{_∙_, ap}
 use borrow.Author.Needs.{needs}
-use Rattle.decoding.specs.Operation.{arithmeticOf}
+use Rattle.machine.specs.Place.{controlOf}
+use Rattle.decoding.specs.Operation.{operationNumbered, arithmeticOf}
 use Rattle.arithmetic_steps.specs.Arithmetic.{arithmeticStep}
-use Rattle.scalars.proofs.Scalar.{scalar-done, unchanged}
-use Rattle.watched_scalars.proofs.Marks.{scalar-marked}
+use Rattle.processing.specs.Data.{namedTree}
+use Rattle.scalars.proofs.Scalar.{accumulates-first, scalar-done, unchanged}
+use Rattle.watched_scalars.proofs.Marks.{scalar-marked, handed-on}
 use Rattle.watched_scalars.proofs.watched_double.Statement.{statement}
 use Rattle.watched_scalars.proofs.watched_double.Tie as tie
 
+quick-double-requires : tie.Need-quick-double-requires
+quick-double-requires c κs =
+    let a = c .before .before .before .before .before .before .before .args in
+    let pre = c .before .before .before .before .before .before .before .pre in
+    accumulates-first (a .number) (pre .0) (pre .1) (c .before .before .before .before .before .arithmetic-of .ensures ∙ ap arithmeticOf (c .before .before .before .before .before .before .numbered .ensures))
+
 returns : tie.Need-returns
 returns c =
-    let a = c .before .before .before .before .before .before .before .before .before .args in
-    let pre = c .before .before .before .before .before .before .before .before .before .pre in (
-      scalar-done binary64 (a .op) (now (a .s)) (a .fpscr) _ (pre .2) (a .number) (pre .0) (pre .1) (c .before .before .before .before .before .before .before .arithmetic-of .ensures ∙ ap arithmeticOf (c .before .before .before .before .before .before .before .before .numbered .ensures)) (c .before .before .before .before .before .before .double-d .ensures .0) (c .before .before .before .before .before .double-n .ensures .0) (c .before .before .before .before .double-m .ensures .0)
-          (c .before .quick-double .ensures .0 (c .if1 .taken)),
-      scalar-marked binary64 (a .op) (a .fpscr) (a .marks) _ (pre .2) (a .number) (pre .0) (pre .1) (c .before .before .before .before .before .before .before .arithmetic-of .ensures ∙ ap arithmeticOf (c .before .before .before .before .before .before .before .before .numbered .ensures)) (c .before .before .before .before .before .before .double-d .ensures .0) (c .before .before .before .before .before .double-n .ensures .0) (c .before .before .before .before .double-m .ensures .0)
-          (c .before .before .before .mark-sum-double .ensures (a .fpscr % 2 ^ 28)),
-    )
+    let a = c .before .before .before .before .before .before .before .before .before .before .args in
+    let pre = c .before .before .before .before .before .before .before .before .before .before .pre in
+    handed-on (namedTree binary64 (a .op) (operationNumbered (a .number))) (a .op) (now (a .s)) (a .fpscr) _ _ (a .marks) _ _ (c .after .ensures)
+    (scalar-done binary64 (a .op) (now (a .s)) (a .fpscr) _ (pre .2) (a .number) (pre .0) (pre .1) _ (c .before .before .before .before .before .before .before .before .arithmetic-of .ensures ∙ ap arithmeticOf (c .before .before .before .before .before .before .before .before .before .numbered .ensures)) (c .before .before .before .before .before .before .before .double-d .ensures .0) (c .before .before .before .before .before .before .double-n .ensures .0) (c .before .before .before .before .before .double-m .ensures .0)
+    (c .before .before .quick-double .ensures .0 (c .before .if1 .taken)))
+    (scalar-marked binary64 (a .op) (a .fpscr) (a .marks) _ (pre .2) (a .number) (pre .0) (pre .1) (c .before .before .before .before .before .before .before .before .arithmetic-of .ensures ∙ ap arithmeticOf (c .before .before .before .before .before .before .before .before .before .numbered .ensures)) (c .before .before .before .before .before .before .before .double-d .ensures .0) (c .before .before .before .before .before .before .double-n .ensures .0) (c .before .before .before .before .before .double-m .ensures .0)
+    (c .before .before .before .before .mark-sum-double .ensures (controlOf (a .fpscr))))
 
 returns-2 : tie.Need-returns-2
 returns-2 c =
-    let a = c .before .before .before .before .before .before .before .before .before .before .before .args in
-    let pre = c .before .before .before .before .before .before .before .before .before .before .before .pre in (
-      scalar-done binary64 (a .op) (now (a .s)) (a .fpscr) _ (pre .2) (a .number) (pre .0) (pre .1) (c .before .before .before .before .before .before .before .before .before .arithmetic-of .ensures ∙ ap arithmeticOf (c .before .before .before .before .before .before .before .before .before .before .numbered .ensures)) (c .before .before .before .before .before .before .before .before .double-d .ensures .0) (c .before .before .before .before .before .before .before .double-n .ensures .0) (c .before .before .before .before .before .before .double-m .ensures .0)
-          (unchanged (arithmeticStep binary64 (a .fpscr % 2 ^ 28) _ _ _ _) _ (c .before .before .before .quick-double .ensures .1 (c .before .before .if1 .left)) (c .rounded-double .ensures)),
-      scalar-marked binary64 (a .op) (a .fpscr) (a .marks) _ (pre .2) (a .number) (pre .0) (pre .1) (c .before .before .before .before .before .before .before .before .before .arithmetic-of .ensures ∙ ap arithmeticOf (c .before .before .before .before .before .before .before .before .before .before .numbered .ensures)) (c .before .before .before .before .before .before .before .before .double-d .ensures .0) (c .before .before .before .before .before .before .before .double-n .ensures .0) (c .before .before .before .before .before .before .double-m .ensures .0)
-          (c .before .before .before .before .before .mark-sum-double .ensures (a .fpscr % 2 ^ 28)),
-    )
+    let a = c .before .before .before .before .before .before .before .before .before .before .before .before .args in
+    let pre = c .before .before .before .before .before .before .before .before .before .before .before .before .pre in
+    handed-on (namedTree binary64 (a .op) (operationNumbered (a .number))) (a .op) (now (a .s)) (a .fpscr) _ _ (a .marks) _ _ (c .after2 .ensures)
+    (scalar-done binary64 (a .op) (now (a .s)) (a .fpscr) _ (pre .2) (a .number) (pre .0) (pre .1) _ (c .before .before .before .before .before .before .before .before .before .before .arithmetic-of .ensures ∙ ap arithmeticOf (c .before .before .before .before .before .before .before .before .before .before .before .numbered .ensures)) (c .before .before .before .before .before .before .before .before .before .double-d .ensures .0) (c .before .before .before .before .before .before .before .before .double-n .ensures .0) (c .before .before .before .before .before .before .before .double-m .ensures .0)
+    (unchanged (arithmeticStep binary64 (controlOf (a .fpscr)) _ _ _ _) (a .fpscr) _ _ (c .before .before .before .before .quick-double .ensures .1 (c .before .before .before .if1 .left)) (c .before .rounded-double .ensures)))
+    (scalar-marked binary64 (a .op) (a .fpscr) (a .marks) _ (pre .2) (a .number) (pre .0) (pre .1) (c .before .before .before .before .before .before .before .before .before .before .arithmetic-of .ensures ∙ ap arithmeticOf (c .before .before .before .before .before .before .before .before .before .before .before .numbered .ensures)) (c .before .before .before .before .before .before .before .before .before .double-d .ensures .0) (c .before .before .before .before .before .before .before .before .double-n .ensures .0) (c .before .before .before .before .before .before .before .double-m .ensures .0)
+    (c .before .before .before .before .before .before .mark-sum-double .ensures (controlOf (a .fpscr))))
 
 pub watched-double-spec : {M : Type 1} → statement M
 watched-double-spec =
@@ -41,7 +48,9 @@ watched-double-spec =
     (λ c κs. search needs)
     (λ c κs. search needs)
     (λ c κs. search needs)
+    quick-double-requires
     (λ c κs. search needs)
     returns
+    (λ c κs. search needs)
     (λ c κs. search needs)
     returns-2)

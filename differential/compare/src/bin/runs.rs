@@ -45,17 +45,25 @@ fn left_out(word: u32, state: &[u32; STATE], left: &[u32; STATE]) -> bool {
     runs && (directed || oracle::payload(word, state, left))
 }
 
+/// FPSCR 4:0 after a number operation, by the unit's own call: the Rust's are these from then on, so that a later read has them.
+fn exceptions(word: u32, state: &[u32; STATE]) -> u32 {
+    let mut left = *state;
+    fpu::raw::data_processing(&mut left, 0, word, &mut [0; 5]);
+    left[52]
+}
+
 /// the list with words that `left_out` names changed into one that changes nothing, by what the Rust makes of those before them.
 fn compared(cpu: &mut Cpu, list: &mut [u32], base: u32, state: &[u32; STATE], window: &[u32]) {
     let (mut s, mut w) = (*state, window.to_vec());
     for word in list {
         let before = s;
-        if oracle::listed(cpu, &[*word], base, false, &mut s, &mut w).0 != 0 {
+        if oracle::listed(cpu, &[*word], base, false, &mut s, &mut w, exceptions).0 != 0 {
             return;
         }
         if left_out(*word, &before, &s) {
             *word = NOTHING;
             s[..32].copy_from_slice(&before[..32]);
+            s[52] = before[52];
         }
     }
 }
@@ -69,8 +77,9 @@ fn long(r: &mut Random, cpu: &mut Cpu, length: u32, base: u32, state: &[u32; STA
             *turn += 1;
             let any = word(r, *turn);
             let (mut t, mut v) = (s, w.clone());
-            let (kind, _) = oracle::listed(cpu, &[any], base, false, &mut t, &mut v);
+            let (kind, _) = oracle::listed(cpu, &[any], base, false, &mut t, &mut v, exceptions);
             if kind != 0 || t[50] >> 30 & 1 == 0 || left_out(any, &s, &t) {
+                s[47] = s[47].wrapping_add(4);
                 return NOTHING;
             }
             (s, w) = (t, v);
@@ -97,6 +106,7 @@ fn main() {
         if number == 0 || r.once_in(2) {
             base = cases::window(&mut r, &mut window);
             cases::machine(&mut r, &mut state, base, window.len());
+            state[52] = r.below(32);
             // mostly with the unit enabled
             state[50] |= if r.once_in(8) { 0 } else { 1 << 30 };
         }
@@ -114,18 +124,18 @@ fn main() {
         }
         let thumb = r.once_in(200);
         let (mut a, mut b, mut v, mut w) = (state, state, window.clone(), window.clone());
-        let (kind, answer) = oracle::listed(&mut cpu, &list, base, thumb, &mut a, &mut v);
+        let (kind, answer) = oracle::listed(&mut cpu, &list, base, thumb, &mut a, &mut v, exceptions);
         let mut ours = [0xA5A5_A5A5; 5];
         let got = fpu::raw::run(&mut b, &mut w, base, thumb as u32, &list, &mut ours);
         let (mut d, mut x, mut marks, mut window_marks) = (state, window.clone(), fpu::MARKS_ALL, vec![1u8; window.len()]);
         let mut watched = [0xA5A5_A5A5; 5];
         let seen = fpu::raw::watch(&mut d, &mut marks, &mut x, &mut window_marks, base, thumb as u32, &list, &mut watched);
-        let known = 52 + window.len() as u32;
+        let known = (STATE + window.len()) as u32;
         if seen != kind || watched[..4] != answer[..4] || watched[4] != known || a != d || v != x || marks != fpu::MARKS_ALL || window_marks.iter().any(|&m| m != 1) {
             wrong += 1;
             if wrong <= 10 {
                 println!("DISAGREEMENT watched {list:08X?} base {base:08X} thumb {thumb} state {state:08X?} window {window:08X?}");
-                println!("  kind {kind} answer {answer:08X?} | kind {seen} answer {watched:08X?} marks {marks:013X}");
+                println!("  kind {kind} answer {answer:08X?} | kind {seen} answer {watched:08X?} marks {marks:014X}");
             }
         }
         kinds[kind as usize & 255] += 1;

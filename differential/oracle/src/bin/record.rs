@@ -2,12 +2,12 @@
 //! that cases::left_out names are not among them, words that round are in mode 00, and those that leave a NaN have FPSCR bit 25 set.
 //! A record is 128 words of 32 bits, lowest byte first:
 //! 0 call (as Call::number, or 4: conditions), 1 thumb, 2 word, 3 base, 4 window words, 5 kind, 6 address, 7 word reported,
-//! 8 to 59 the state given, 60 to 67 the window given, 68 to 119 the state left, 120 to 127 the window left.
+//! 8 to 59 the state given, 60 to 67 the window given, 68 to 119 the state left, 120 to 127 the window left. FPSCR 27:0 stands in one word.
 //! A window of more than 8 words is all zero. The record of call 4 has in word 8 + c the flags, as bits 15:0, under which
 //! condition c holds.
 
 use oracle::cases::{self, Random, OPERATIONS};
-use oracle::{answer, Call, Case, STATE};
+use oracle::{answer, told, Call, Case, STATE};
 use std::io::Write;
 
 fn record(case: &Case) -> [u32; 128] {
@@ -23,8 +23,8 @@ fn record(case: &Case) -> [u32; 128] {
         reply.address,
         reply.word,
     ]);
-    words[8..60].copy_from_slice(&case.state);
-    words[68..120].copy_from_slice(&reply.state);
+    words[8..60].copy_from_slice(&told(&case.state));
+    words[68..120].copy_from_slice(&told(&reply.state));
     if case.window.len() <= 8 {
         words[60..60 + case.window.len()].copy_from_slice(&case.window);
         words[120..120 + case.window.len()].copy_from_slice(&reply.window);

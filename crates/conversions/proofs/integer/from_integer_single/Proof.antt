@@ -1,4 +1,5 @@
 -- `conversions::integer::from_integer_single` meets its contract.
+use Rattle.integers.proofs.Laws.{from-integer-raises-lt}
 use borrow.Author.Needs.{needs}
 use Rattle.conversions.proofs.integer.from_integer_single.Statement.{statement}
 use Rattle.conversions.proofs.integer.from_integer_single.Tie as tie
@@ -10,4 +11,6 @@ from-integer-single-spec =
     (λ c κs. search needs)
     (λ c κs. search needs)
     (λ c κs. search needs)
-    (λ c q v. rw (c .set-single .ensures, c .before .before .from-integer32 .ensures .0, c .before .before .before .get-single .ensures)))
+    (λ c κs. search needs)
+    (λ c κs. rw (c .before .before .from-integer32 .ensures .1) (from-integer-raises-lt _ _ _))
+    (λ c q v. rw (c .raise .ensures, c .before .set-single .ensures, c .before .before .before .from-integer32 .ensures .0, c .before .before .before .from-integer32 .ensures .1, c .before .before .before .before .before .before .control-of .ensures, c .before .before .before .before .get-single .ensures)))

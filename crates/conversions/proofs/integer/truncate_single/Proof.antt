@@ -1,4 +1,5 @@
 -- `conversions::integer::truncate_single` meets its contract.
+use Rattle.integers.proofs.Laws.{to-integer-raises-lt}
 use borrow.Author.Needs.{needs}
 use Rattle.conversions.proofs.integer.truncate_single.Statement.{statement}
 use Rattle.conversions.proofs.integer.truncate_single.Tie as tie
@@ -10,4 +11,5 @@ truncate-single-spec =
     (λ c κs. search needs)
     (λ c κs. search needs)
     (λ c κs. search needs)
-    (λ c q v. rw (c .set-single .ensures, c .before .before .to-integer32 .ensures .0, c .before .before .before .get-single .ensures)))
+    (λ c κs. rw (c .before .before .to-integer32 .ensures .1) (to-integer-raises-lt _ _ _ _))
+    (λ c q v. rw (c .raise .ensures, c .before .set-single .ensures, c .before .before .before .to-integer32 .ensures .0, c .before .before .before .to-integer32 .ensures .1, c .before .before .before .before .get-single .ensures)))

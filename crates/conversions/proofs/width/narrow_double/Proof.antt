@@ -1,4 +1,5 @@
 -- `conversions::width::narrow_double` meets its contract.
+use Rattle.widths.proofs.Laws.{narrow-raises}
 use borrow.Author.Needs.{needs}
 use Rattle.conversions.proofs.width.narrow_double.Statement.{statement}
 use Rattle.conversions.proofs.width.narrow_double.Tie as tie
@@ -10,4 +11,6 @@ narrow-double-spec =
     (λ c κs. search needs)
     (λ c κs. search needs)
     (λ c κs. search needs)
-    (λ c q v. rw (c .set-single .ensures, c .before .before .narrow .ensures .0, c .before .before .before .get-double .ensures)))
+    (λ c κs. search needs)
+    (λ c κs. rw (c .before .before .narrow .ensures .1) (narrow-raises _ _))
+    (λ c q v. rw (c .raise .ensures, c .before .set-single .ensures, c .before .before .before .narrow .ensures .0, c .before .before .before .narrow .ensures .1, c .before .before .before .before .before .before .control-of .ensures, c .before .before .before .before .get-double .ensures)))

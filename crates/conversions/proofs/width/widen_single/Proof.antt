@@ -1,4 +1,5 @@
 -- `conversions::width::widen_single` meets its contract.
+use Rattle.widths.proofs.Laws.{widen-raises}
 use borrow.Author.Needs.{needs}
 use Rattle.conversions.proofs.width.widen_single.Statement.{statement}
 use Rattle.conversions.proofs.width.widen_single.Tie as tie
@@ -10,4 +11,6 @@ widen-single-spec =
     (λ c κs. search needs)
     (λ c κs. search needs)
     (λ c κs. search needs)
-    (λ c q v. rw (c .set-double .ensures, c .before .before .widen .ensures .0, c .before .before .before .get-single .ensures)))
+    (λ c κs. search needs)
+    (λ c κs. rw (c .before .before .widen .ensures .1) (widen-raises _))
+    (λ c q v. rw (c .raise .ensures, c .before .set-double .ensures, c .before .before .before .widen .ensures .0, c .before .before .before .widen .ensures .1, c .before .before .before .before .before .before .control-of .ensures, c .before .before .before .before .get-single .ensures)))

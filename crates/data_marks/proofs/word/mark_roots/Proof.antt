@@ -1,7 +1,4 @@
 -- `data_marks::word::mark_roots` meets its contract.
-use lib.Ieee.{binary32}
-use Rattle.steps.specs.Root.{rootStep}
-use Rattle.processing_marks.proofs.Steps.{root-copies}
 use borrow.Author.Needs.{needs}
 use Rattle.data_marks.proofs.word.mark_roots.Statement.{statement}
 use Rattle.data_marks.proofs.word.mark_roots.Tie as tie
@@ -17,4 +14,4 @@ mark-roots-spec =
     (λ c κs. search needs)
     (λ c κs. search needs)
     (λ c κs. search needs)
-    (λ c. rw (c .before .before .before .if1 .left, ← c .before .before .single-d .ensures .0, ← c .before .single-m .ensures .0) (c .copy-singles .ensures (rootStep binary32 (c .before .before .before .before .args .control)) (root-copies (c .before .before .before .before .args .control)))))
+    (λ c. rw (c .before .before .before .if1 .left, ← c .before .before .single-d .ensures .0, ← c .before .single-m .ensures .0) (c .root-singles .ensures)))

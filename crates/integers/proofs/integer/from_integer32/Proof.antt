@@ -1,8 +1,9 @@
-use Rattle.integers.proofs.Whole.{below-zero, signed-up, unsigned, below-raises, up-raises, unsigned-raises}
+-- `integers::integer::from_integer32` meets its contract.
+use Rattle.integers.proofs.Whole.{by-sign, raises-by-sign}
 use Rattle.exceptions.specs.Exceptions.{inexact}
 use Rattle.rounding.specs.Rounding.{roundingOf}
 use lib.Ieee.{binary32}
-use mathlib.Core.Bool.{Bool, cond}
+use mathlib.Core.Bool.{Bool, true, false, cond}
 use mathlib.Core.Path.{ap, _∙_}
 use borrow.Author.Needs.{needs}
 use Rattle.integers.proofs.integer.from_integer32.Statement.{statement}
@@ -18,9 +19,9 @@ raised-requires : tie.Need-raised-requires
 raised-requires c κs = search needs
 
 returns : tie.Need-returns
-returns c = let a = c .before .before .before .before .args in (
-  below-zero binary32 (roundingOf (a .control)) (a .signed) (a .w) _ (c .before .before .before .if1 .taken) (c .before .before .if2 .taken) (c .raised .ensures .0 ∙ c .before .whole32 .ensures .bits-are),
-  below-raises binary32 (a .signed) (a .w) _ (c .before .before .before .if1 .taken) (c .before .before .if2 .taken) (c .raised .ensures .1 ∙ ap (λ (x : Bool). cond x 0 inexact) (c .before .whole32 .ensures .exact-is)),
+returns c = let a = c .before .before .before .args in (
+  by-sign binary32 (a .signed) (a .w) true (c .before .before .if1 .taken) (roundingOf (a .control)) _ (c .raised .ensures .0 ∙ c .before .whole32 .ensures .bits-are),
+  raises-by-sign binary32 (a .signed) (a .w) true (c .before .before .if1 .taken) _ (c .raised .ensures .1 ∙ ap (λ (x : Bool). cond x 0 inexact) (c .before .whole32 .ensures .exact-is)),
 )
 
 whole32-requires-2 : tie.Need-whole32-requires-2
@@ -30,21 +31,9 @@ raised-requires-2 : tie.Need-raised-requires-2
 raised-requires-2 c κs = search needs
 
 returns-2 : tie.Need-returns-2
-returns-2 c = let a = c .before .before .before .before .args in (
-  signed-up binary32 (roundingOf (a .control)) (a .signed) (a .w) _ (c .before .before .before .if1 .taken) (c .before .before .if2 .left) (c .raised2 .ensures .0 ∙ c .before .whole322 .ensures .bits-are),
-  up-raises binary32 (a .signed) (a .w) _ (c .before .before .before .if1 .taken) (c .before .before .if2 .left) (c .raised2 .ensures .1 ∙ ap (λ (x : Bool). cond x 0 inexact) (c .before .whole322 .ensures .exact-is)),
-)
-
-whole32-requires-3 : tie.Need-whole32-requires-3
-whole32-requires-3 c κs = search needs
-
-raised-requires-3 : tie.Need-raised-requires-3
-raised-requires-3 c κs = search needs
-
-returns-3 : tie.Need-returns-3
-returns-3 c = let a = c .before .before .before .args in (
-  unsigned binary32 (roundingOf (a .control)) (a .signed) (a .w) _ (c .before .before .if1 .left) (c .raised3 .ensures .0 ∙ c .before .whole323 .ensures .bits-are),
-  unsigned-raises binary32 (a .signed) (a .w) _ (c .before .before .if1 .left) (c .raised3 .ensures .1 ∙ ap (λ (x : Bool). cond x 0 inexact) (c .before .whole323 .ensures .exact-is)),
+returns-2 c = let a = c .before .before .before .args in (
+  by-sign binary32 (a .signed) (a .w) false (c .before .before .if1 .left) (roundingOf (a .control)) _ (c .raised2 .ensures .0 ∙ c .before .whole322 .ensures .bits-are),
+  raises-by-sign binary32 (a .signed) (a .w) false (c .before .before .if1 .left) _ (c .raised2 .ensures .1 ∙ ap (λ (x : Bool). cond x 0 inexact) (c .before .whole322 .ensures .exact-is)),
 )
 
 pub from-integer32-spec : {M : Type 1} → statement M
@@ -57,7 +46,4 @@ from-integer32-spec =
     returns
     whole32-requires-2
     raised-requires-2
-    returns-2
-    whole32-requires-3
-    raised-requires-3
-    returns-3)
+    returns-2)

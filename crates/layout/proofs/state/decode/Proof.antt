@@ -84,6 +84,12 @@ add-t28 c = omega (arith, c .shared-slice-known5 .given 48, c .before .before .b
 shared-slice-read-t30 : tie.Need-shared-slice-read-t30 Inv-loop μ-loop Inv-loop2 μ-loop2
 shared-slice-read-t30 c = search needs
 
+add-t31 : tie.Need-add-t31 Inv-loop μ-loop Inv-loop2 μ-loop2
+add-t31 c = omega (arith, c .shared-slice-known6 .given 48, c .before .before .before .before .before .before .before .before .pre .flags-only, c .before .before .before .before .before .before .before .before .pre .control-only, c .before .before .before .before .before .before .before .before .pre .exceptions-only)
+
+shared-slice-read-t33 : tie.Need-shared-slice-read-t33 Inv-loop μ-loop Inv-loop2 μ-loop2
+shared-slice-read-t33 c = search needs
+
 shared-slice-read-from-bits :
     tie.Need-shared-slice-read-from-bits Inv-loop μ-loop Inv-loop2 μ-loop2
 shared-slice-read-from-bits c = search needs
@@ -92,7 +98,7 @@ from-bits-requires : tie.Need-from-bits-requires Inv-loop μ-loop Inv-loop2 μ-l
 from-bits-requires c κs = search needs
 
 returns : tie.Need-returns Inv-loop μ-loop Inv-loop2 μ-loop2
-returns c = decoded (c .before .before .before .before .before .before .before .before .before .before .args .state .now) (c .before .before .before .before .before .before .before .before .loop .s) (c .before .before .before .before .before .before .loop2 .r) (c .from-bits .result) (c .before .before .before .before .before .before .before .before .before .before .args .thumb) (all-copied 32 (c .before .before .before .before .before .before .before .before .loop .s) (c .before .before .before .before .before .before .before .before .before .before .args .state .now) (c .before .before .before .before .before .before .before .before .loop .i) (c .before .before .before .before .before .before .before .before .loop .inv .1) (omega arith) (c .before .before .before .before .before .before .before .before .loop .inv .2)) (all-copied 16 (c .before .before .before .before .before .before .loop2 .r) (drop 32 (c .before .before .before .before .before .before .before .before .before .before .args .state .now)) (c .before .before .before .before .before .before .loop2 .i) (c .before .before .before .before .before .before .loop2 .inv .1) (omega arith) (c .before .before .before .before .before .before .loop2 .inv .2)) (c .from-bits .ensures)
+returns c = decoded (c .before .before .before .before .before .before .before .before .before .before .before .args .state .now) (c .before .before .before .before .before .before .before .before .before .loop .s) (c .before .before .before .before .before .before .before .loop2 .r) (c .from-bits .result) (c .before .before .before .before .before .before .before .before .before .before .before .args .thumb) (all-copied 32 (c .before .before .before .before .before .before .before .before .before .loop .s) (c .before .before .before .before .before .before .before .before .before .before .before .args .state .now) (c .before .before .before .before .before .before .before .before .before .loop .i) (c .before .before .before .before .before .before .before .before .before .loop .inv .1) (omega arith) (c .before .before .before .before .before .before .before .before .before .loop .inv .2)) (all-copied 16 (c .before .before .before .before .before .before .before .loop2 .r) (drop 32 (c .before .before .before .before .before .before .before .before .before .before .before .args .state .now)) (c .before .before .before .before .before .before .before .loop2 .i) (c .before .before .before .before .before .before .before .loop2 .inv .1) (omega arith) (c .before .before .before .before .before .before .before .loop2 .inv .2)) (c .from-bits .ensures)
 
 pub decode-spec : {M : Type 1} → statement M
 decode-spec =
@@ -123,6 +129,8 @@ decode-spec =
     shared-slice-read-t27
     add-t28
     shared-slice-read-t30
+    add-t31
+    shared-slice-read-t33
     shared-slice-read-from-bits
     from-bits-requires
     returns)

@@ -5,19 +5,20 @@ use mathlib.Core.Path.{_≡_, refl, sym, _∙_}
 use borrow.Author.Needs.{needs}
 use mathlib.Core.List.{_++_}
 use Prim.Native.Nat.{_≤_, _+_, _-_}
+use Rattle.machine.specs.Place.{before}
 use Rattle.layout.specs.State.{encode}
-use Rattle.layout.proofs.Copied.{one-more, one-further, first-copied, second-copied, last-four}
+use Rattle.layout.proofs.Copied.{one-more, one-further, first-copied, second-copied, last-five}
 use Rattle.layout.proofs.state.encode.Statement.{statement}
 use Rattle.layout.proofs.state.encode.Tie as tie
 
 abbrev Inv-loop : tie.InvT-loop
-Inv-loop machine state₀ s i₀ state i = (i ≤ 32) × (length state ≡ 52) × (take i state ≡ take i s)
+Inv-loop machine state₀ s i₀ state i = (i ≤ 32) × (length state ≡ before) × (take i state ≡ take i s)
 
 abbrev μ-loop : tie.MeasureT-loop
 μ-loop machine state₀ s i₀ state i = 32 - i
 
 abbrev Inv-loop2 : tie.InvT-loop2
-Inv-loop2 machine state₀ r i₀ state i = (i ≤ 16) × (length state ≡ 52) × (take (32 + i) state ≡ machine .s ++ take i r)
+Inv-loop2 machine state₀ r i₀ state i = (i ≤ 16) × (length state ≡ before) × (take (32 + i) state ≡ machine .s ++ take i r)
 
 abbrev μ-loop2 : tie.MeasureT-loop2
 μ-loop2 machine state₀ r i₀ state i = 16 - i
@@ -79,6 +80,9 @@ mul-state-5 c = search needs
 slice-write-state-3 : tie.Need-slice-write-state-3 Inv-loop μ-loop Inv-loop2 μ-loop2
 slice-write-state-3 c = search needs
 
+control-of-requires : tie.Need-control-of-requires Inv-loop μ-loop Inv-loop2 μ-loop2
+control-of-requires c κs = search needs
+
 slice-write-state-4 : tie.Need-slice-write-state-4 Inv-loop μ-loop Inv-loop2 μ-loop2
 slice-write-state-4 c = search needs
 
@@ -91,12 +95,15 @@ to-bits-requires c κs = search needs
 slice-write-state-6 : tie.Need-slice-write-state-6 Inv-loop μ-loop Inv-loop2 μ-loop2
 slice-write-state-6 c = search needs
 
+slice-write-state-7 : tie.Need-slice-write-state-7 Inv-loop μ-loop Inv-loop2 μ-loop2
+slice-write-state-7 c = simp length-set (omega (arith, c .before .before .before .before .loop2 .inv .1))
+
 same-length : tie.Need-same-length Inv-loop μ-loop Inv-loop2 μ-loop2
-same-length c = simp length-set (c .before .before .before .loop2 .inv .1 ∙ sym (c .before .before .before .before .before .before .before .before .before .pre))
+same-length c = simp length-set (c .before .before .before .before .loop2 .inv .1 ∙ sym (c .before .before .before .before .before .before .before .before .before .before .pre))
 
 returns : tie.Need-returns Inv-loop μ-loop Inv-loop2 μ-loop2
 unfolding encode
-returns c = rw (c .to-bits .ensures) (last-four (c .before .before .before .loop2 .state) ((c .before .before .before .before .before .before .before .before .before .args .machine) .s) ((c .before .before .before .before .before .before .before .before .before .args .machine) .r) _ _ _ _ (c .before .before .before .loop2 .inv .1) (second-copied (c .before .before .before .loop2 .state) ((c .before .before .before .before .before .before .before .before .before .args .machine) .s) ((c .before .before .before .before .before .before .before .before .before .args .machine) .r) (c .before .before .before .loop2 .i) (search needs) (omega arith) (c .before .before .before .loop2 .inv .2)))
+returns c = rw (c .to-bits .ensures, c .before .control-of .ensures) (last-five (c .before .before .before .before .loop2 .state) ((c .before .before .before .before .before .before .before .before .before .before .args .machine) .s) ((c .before .before .before .before .before .before .before .before .before .before .args .machine) .r) _ _ _ _ _ (c .before .before .before .before .loop2 .inv .1) (second-copied (c .before .before .before .before .loop2 .state) ((c .before .before .before .before .before .before .before .before .before .before .args .machine) .s) ((c .before .before .before .before .before .before .before .before .before .before .args .machine) .r) (c .before .before .before .before .loop2 .i) (search needs) (omega arith) (c .before .before .before .before .loop2 .inv .2)))
 
 pub encode-spec : {M : Type 1} → statement M
 encode-spec =
@@ -125,9 +132,11 @@ encode-spec =
     loop2-again
     mul-state-5
     slice-write-state-3
+    control-of-requires
     slice-write-state-4
     slice-write-state-5
     to-bits-requires
     slice-write-state-6
+    slice-write-state-7
     same-length
     returns)

@@ -1,16 +1,12 @@
 -- `listing::line::set_to` meets its contract.
 use Rattle.listing.specs.declared.line.Expected.the-variants as expected
 use Rattle.listing.specs.declared.line.Item.the-variants.{Set, Mistake}
-use lib.Dec.{eqb, ltb}
-use mathlib.Core.Bool.{Bool, cond}
-use Rattle.machine.specs.Place.{place}
-use Rattle.place_names.specs.Place.{width}
 use Rattle.numerals.specs.Number.{valueOf}
-use Rattle.listing.specs.Line.{restOf, endedOf, setTo}
+use Rattle.listing.specs.Line.{restOf, endedOf, misfit, setValue, setTo}
 use Rattle.listing.proofs.Items.{rest-is, given-value, given-wrong}
 use borrow.Author.Tests.{eq-eqb, ne-eqb}
 use denote.Ref.{now}
-use Prim.Native.Nat.{ℕ, _^_}
+use Prim.Native.Nat.{ℕ}
 use mathlib.Core.List.{List}
 use mathlib.Core.Path.{_∙_, ap, sym}
 use borrow.Author.Needs.{needs}
@@ -40,7 +36,10 @@ enum-told c = search needs
 
 returns : tie.Need-returns
 unfolding setTo
-returns c = given-wrong (now (c .before .before .before .before .before .before .args .rest)) _ _ (c .before .before .before .before .first .ensures) valueOf _ (c .before .before .value-of .ensures) (λ v. cond (ltb v (2 ^ width (place (c .before .before .before .before .before .before .args .place)))) (endedOf (restOf (now (c .before .before .before .before .before .before .args .rest))) (Set (c .before .before .before .before .before .before .args .place) v)) (cond (eqb (c .before .before .before .before .before .before .args .place) 49) (Mistake expected.Control) (Mistake expected.Flags))) (Mistake expected.Value) (c .enum-told .given .1)
+returns c =
+    let a = c .before .before .before .before .before .before .args in
+    given-wrong (now (a .rest)) _ _ (c .before .before .before .before .first .ensures) valueOf _ (c .before .before .value-of .ensures) (setValue (a .place) (restOf (now (a .rest))))
+    (Mistake expected.Value) (c .enum-told .given .1)
 
 fits-requires : tie.Need-fits-requires
 fits-requires c κs = search needs
@@ -59,15 +58,29 @@ ended-requires c κs = search needs
 
 returns-2 : tie.Need-returns-2
 unfolding setTo
-returns-2 c = c .ended .ensures ∙ ap (λ (k : List ℕ). endedOf k (Set (c .before .before .before .before .before .before .before .before .before .before .before .args .place) (c .before .before .before .before .before .value .given .0 .0))) (rest-is (now (c .before .before .before .before .before .before .before .before .before .before .before .args .rest)) _ _ (c .before .before .before .before .before .before .before .before .before .first .ensures)) ∙ rw (sym (c .before .before .before .fits2 .ensures) ∙ c .before .before .if1 .taken) at (given-value (now (c .before .before .before .before .before .before .before .before .before .before .before .args .rest)) _ _ (c .before .before .before .before .before .before .before .before .before .first .ensures) valueOf _ (c .before .before .before .before .before .before .before .value-of .ensures) (λ v. cond (ltb v (2 ^ width (place (c .before .before .before .before .before .before .before .before .before .before .before .args .place)))) (endedOf (restOf (now (c .before .before .before .before .before .before .before .before .before .before .before .args .rest))) (Set (c .before .before .before .before .before .before .before .before .before .before .before .args .place) v)) (cond (eqb (c .before .before .before .before .before .before .before .before .before .before .before .args .place) 49) (Mistake expected.Control) (Mistake expected.Flags))) (Mistake expected.Value) _ (c .before .before .before .before .before .value .given .1))
+returns-2 c =
+    let a = c .before .before .before .before .before .before .before .before .before .before .before .args in
+    c .ended .ensures ∙ ap (λ (k : List ℕ). endedOf k (Set (a .place) (c .before .before .before .before .before .value .given .0 .0))) (rest-is (now (a .rest)) _ _ (c .before .before .before .before .before .before .before .before .before .first .ensures))
+    ∙ rw (sym (c .before .before .before .fits2 .ensures) ∙ c .before .before .if1 .taken) at (given-value (now (c .before .before .before .before .before .before .before .before .before .before .before .args .rest)) _ _ (c .before .before .before .before .before .before .before .before .before .first .ensures) valueOf _ (c .before .before .before .before .before .before .before .value-of .ensures)
+    (setValue (c .before .before .before .before .before .before .before .before .before .before .before .args .place) (restOf (now (c .before .before .before .before .before .before .before .before .before .before .before .args .rest)))) (Mistake expected.Value) _ (c .before .before .before .before .before .value .given .1))
 
 returns-3 : tie.Need-returns-3
-unfolding setTo
-returns-3 c = ap (λ (b : Bool). cond b (Mistake expected.Control) (Mistake expected.Flags)) (sym (eq-eqb (c .before .before .before .before .before .before .before .before .before .before .args .place) 49 (c .if2 .taken))) ∙ rw (sym (c .before .before .fits2 .ensures) ∙ c .before .if1 .left) at (given-value (now (c .before .before .before .before .before .before .before .before .before .before .args .rest)) _ _ (c .before .before .before .before .before .before .before .before .first .ensures) valueOf _ (c .before .before .before .before .before .before .value-of .ensures) (λ v. cond (ltb v (2 ^ width (place (c .before .before .before .before .before .before .before .before .before .before .args .place)))) (endedOf (restOf (now (c .before .before .before .before .before .before .before .before .before .before .args .rest))) (Set (c .before .before .before .before .before .before .before .before .before .before .args .place) v)) (cond (eqb (c .before .before .before .before .before .before .before .before .before .before .args .place) 49) (Mistake expected.Control) (Mistake expected.Flags))) (Mistake expected.Value) _ (c .before .before .before .before .value .given .1))
+unfolding setTo misfit
+returns-3 c =
+    rw (eq-eqb _ _ (c .if2 .taken)) at (rw (sym (c .before .before .fits2 .ensures) ∙ c .before .if1 .left) at (given-value (now (c .before .before .before .before .before .before .before .before .before .before .args .rest)) _ _ (c .before .before .before .before .before .before .before .before .first .ensures) valueOf _ (c .before .before .before .before .before .before .value-of .ensures)
+    (setValue (c .before .before .before .before .before .before .before .before .before .before .args .place) (restOf (now (c .before .before .before .before .before .before .before .before .before .before .args .rest)))) (Mistake expected.Value) _ (c .before .before .before .before .value .given .1)))
 
 returns-4 : tie.Need-returns-4
-unfolding setTo
-returns-4 c = ap (λ (b : Bool). cond b (Mistake expected.Control) (Mistake expected.Flags)) (sym (ne-eqb (c .before .before .before .before .before .before .before .before .before .before .args .place) 49 (c .if2 .left))) ∙ rw (sym (c .before .before .fits2 .ensures) ∙ c .before .if1 .left) at (given-value (now (c .before .before .before .before .before .before .before .before .before .before .args .rest)) _ _ (c .before .before .before .before .before .before .before .before .first .ensures) valueOf _ (c .before .before .before .before .before .before .value-of .ensures) (λ v. cond (ltb v (2 ^ width (place (c .before .before .before .before .before .before .before .before .before .before .args .place)))) (endedOf (restOf (now (c .before .before .before .before .before .before .before .before .before .before .args .rest))) (Set (c .before .before .before .before .before .before .before .before .before .before .args .place) v)) (cond (eqb (c .before .before .before .before .before .before .before .before .before .before .args .place) 49) (Mistake expected.Control) (Mistake expected.Flags))) (Mistake expected.Value) _ (c .before .before .before .before .value .given .1))
+unfolding setTo misfit
+returns-4 c =
+    rw (ne-eqb _ _ (c .before .if2 .left), eq-eqb _ _ (c .if3 .taken)) at (rw (sym (c .before .before .before .fits2 .ensures) ∙ c .before .before .if1 .left) at (given-value (now (c .before .before .before .before .before .before .before .before .before .before .before .args .rest)) _ _ (c .before .before .before .before .before .before .before .before .before .first .ensures) valueOf _ (c .before .before .before .before .before .before .before .value-of .ensures)
+    (setValue (c .before .before .before .before .before .before .before .before .before .before .before .args .place) (restOf (now (c .before .before .before .before .before .before .before .before .before .before .before .args .rest)))) (Mistake expected.Value) _ (c .before .before .before .before .before .value .given .1)))
+
+returns-5 : tie.Need-returns-5
+unfolding setTo misfit
+returns-5 c =
+    rw (ne-eqb _ _ (c .before .if2 .left), ne-eqb _ _ (c .if3 .left)) at (rw (sym (c .before .before .before .fits2 .ensures) ∙ c .before .before .if1 .left) at (given-value (now (c .before .before .before .before .before .before .before .before .before .before .before .args .rest)) _ _ (c .before .before .before .before .before .before .before .before .before .first .ensures) valueOf _ (c .before .before .before .before .before .before .before .value-of .ensures)
+    (setValue (c .before .before .before .before .before .before .before .before .before .before .before .args .place) (restOf (now (c .before .before .before .before .before .before .before .before .before .before .before .args .rest)))) (Mistake expected.Value) _ (c .before .before .before .before .before .value .given .1)))
 
 pub set-to-spec : {M : Type 1} → statement M
 set-to-spec =
@@ -88,4 +101,5 @@ set-to-spec =
     ended-requires
     returns-2
     returns-3
-    returns-4)
+    returns-4
+    returns-5)

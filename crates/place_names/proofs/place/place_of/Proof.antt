@@ -1,6 +1,6 @@
 -- `place_names::place::place_of` meets its contract.
 use Rattle.place_names.proofs.Names.{compared}
-use Rattle.place_names.specs.Place.{placeOf, flagsText, controlText, fpexcText, nzcvText}
+use Rattle.place_names.specs.Place.{placeOf, flagsText, controlText, fpexcText, nzcvText, exceptionsText}
 use denote.Ref.{now}
 use mathlib.Core.Path.{_∙_}
 use borrow.Author.Needs.{needs}
@@ -15,7 +15,9 @@ same-requires c κs = search needs
 
 returns : tie.Need-returns
 unfolding placeOf
-returns c = rw (compared _ (now (c .before .before .before .before .args .text)) flagsText (c .before .same .ensures) ∙ c .if1 .taken)
+returns c =
+    let t = now (c .before .before .before .before .args .text) in
+    rw (compared _ t flagsText (c .before .same .ensures) ∙ c .if1 .taken)
 
 slice-aggregate-same-2 : tie.Need-slice-aggregate-same-2
 slice-aggregate-same-2 c = search needs
@@ -25,7 +27,9 @@ same-requires-2 c κs = search needs
 
 returns-2 : tie.Need-returns-2
 unfolding placeOf
-returns-2 c = rw (compared _ (now (c .before .before .before .before .before .before .before .args .text)) flagsText (c .before .before .before .before .same .ensures) ∙ c .before .before .before .if1 .left, compared _ (now (c .before .before .before .before .before .before .before .args .text)) controlText (c .before .same2 .ensures) ∙ c .if2 .taken)
+returns-2 c =
+    let t = now (c .before .before .before .before .before .before .before .args .text) in
+    rw (compared _ t flagsText (c .before .before .before .before .same .ensures) ∙ c .before .before .before .if1 .left, compared _ t controlText (c .before .same2 .ensures) ∙ c .if2 .taken)
 
 slice-aggregate-same-3 : tie.Need-slice-aggregate-same-3
 slice-aggregate-same-3 c = search needs
@@ -35,7 +39,9 @@ same-requires-3 c κs = search needs
 
 returns-3 : tie.Need-returns-3
 unfolding placeOf
-returns-3 c = rw (compared _ (now (c .before .before .before .before .before .before .before .before .before .before .args .text)) flagsText (c .before .before .before .before .before .before .before .same .ensures) ∙ c .before .before .before .before .before .before .if1 .left, compared _ (now (c .before .before .before .before .before .before .before .before .before .before .args .text)) controlText (c .before .before .before .before .same2 .ensures) ∙ c .before .before .before .if2 .left, compared _ (now (c .before .before .before .before .before .before .before .before .before .before .args .text)) fpexcText (c .before .same3 .ensures) ∙ c .if3 .taken)
+returns-3 c =
+    let t = now (c .before .before .before .before .before .before .before .before .before .before .args .text) in
+    rw (compared _ t flagsText (c .before .before .before .before .before .before .before .same .ensures) ∙ c .before .before .before .before .before .before .if1 .left, compared _ t controlText (c .before .before .before .before .same2 .ensures) ∙ c .before .before .before .if2 .left, compared _ t fpexcText (c .before .same3 .ensures) ∙ c .if3 .taken)
 
 slice-aggregate-same-4 : tie.Need-slice-aggregate-same-4
 slice-aggregate-same-4 c = search needs
@@ -45,14 +51,31 @@ same-requires-4 c κs = search needs
 
 returns-4 : tie.Need-returns-4
 unfolding placeOf
-returns-4 c = rw (compared _ (now (c .before .before .before .before .before .before .before .before .before .before .before .before .before .args .text)) flagsText (c .before .before .before .before .before .before .before .before .before .before .same .ensures) ∙ c .before .before .before .before .before .before .before .before .before .if1 .left, compared _ (now (c .before .before .before .before .before .before .before .before .before .before .before .before .before .args .text)) controlText (c .before .before .before .before .before .before .before .same2 .ensures) ∙ c .before .before .before .before .before .before .if2 .left, compared _ (now (c .before .before .before .before .before .before .before .before .before .before .before .before .before .args .text)) fpexcText (c .before .before .before .before .same3 .ensures) ∙ c .before .before .before .if3 .left, compared _ (now (c .before .before .before .before .before .before .before .before .before .before .before .before .before .args .text)) nzcvText (c .before .same4 .ensures) ∙ c .if4 .taken)
+returns-4 c =
+    let t = now (c .before .before .before .before .before .before .before .before .before .before .before .before .before .args .text) in
+    rw (compared _ t flagsText (c .before .before .before .before .before .before .before .before .before .before .same .ensures) ∙ c .before .before .before .before .before .before .before .before .before .if1 .left, compared _ t controlText (c .before .before .before .before .before .before .before .same2 .ensures) ∙ c .before .before .before .before .before .before .if2 .left, compared _ t fpexcText (c .before .before .before .before .same3 .ensures) ∙ c .before .before .before .if3 .left, compared _ t nzcvText (c .before .same4 .ensures) ∙ c .if4 .taken)
+
+slice-aggregate-same-5 : tie.Need-slice-aggregate-same-5
+slice-aggregate-same-5 c = search needs
+
+same-requires-5 : tie.Need-same-requires-5
+same-requires-5 c κs = search needs
+
+returns-5 : tie.Need-returns-5
+unfolding placeOf
+returns-5 c =
+    let t = now (c .before .before .before .before .before .before .before .before .before .before .before .before .before .before .before .before .args .text) in
+    rw (compared _ t flagsText (c .before .before .before .before .before .before .before .before .before .before .before .before .before .same .ensures) ∙ c .before .before .before .before .before .before .before .before .before .before .before .before .if1 .left, compared _ t controlText (c .before .before .before .before .before .before .before .before .before .before .same2 .ensures) ∙ c .before .before .before .before .before .before .before .before .before .if2 .left, compared _ t fpexcText (c .before .before .before .before .before .before .before .same3 .ensures) ∙ c .before .before .before .before .before .before .if3 .left, compared _ t nzcvText (c .before .before .before .before .same4 .ensures) ∙ c .before .before .before .if4 .left, compared _ t exceptionsText (c .before .same5 .ensures) ∙ c .if5 .taken)
 
 letter-of-requires : tie.Need-letter-of-requires
 letter-of-requires c κs = search needs
 
-returns-5 : tie.Need-returns-5
+returns-6 : tie.Need-returns-6
 unfolding placeOf
-returns-5 c = rw (compared _ (now (c .before .before .before .before .before .before .before .before .before .before .before .before .before .before .args .text)) flagsText (c .before .before .before .before .before .before .before .before .before .before .before .same .ensures) ∙ c .before .before .before .before .before .before .before .before .before .before .if1 .left, compared _ (now (c .before .before .before .before .before .before .before .before .before .before .before .before .before .before .args .text)) controlText (c .before .before .before .before .before .before .before .before .same2 .ensures) ∙ c .before .before .before .before .before .before .before .if2 .left, compared _ (now (c .before .before .before .before .before .before .before .before .before .before .before .before .before .before .args .text)) fpexcText (c .before .before .before .before .before .same3 .ensures) ∙ c .before .before .before .before .if3 .left, compared _ (now (c .before .before .before .before .before .before .before .before .before .before .before .before .before .before .args .text)) nzcvText (c .before .before .same4 .ensures) ∙ c .before .if4 .left) (c .letter-of .ensures)
+returns-6 c =
+    let t = now (c .before .before .before .before .before .before .before .before .before .before .before .before .before .before .before .before .before .args .text) in
+    rw (compared _ t flagsText (c .before .before .before .before .before .before .before .before .before .before .before .before .before .before .same .ensures) ∙ c .before .before .before .before .before .before .before .before .before .before .before .before .before .if1 .left, compared _ t controlText (c .before .before .before .before .before .before .before .before .before .before .before .same2 .ensures) ∙ c .before .before .before .before .before .before .before .before .before .before .if2 .left, compared _ t fpexcText (c .before .before .before .before .before .before .before .before .same3 .ensures) ∙ c .before .before .before .before .before .before .before .if3 .left, compared _ t nzcvText (c .before .before .before .before .before .same4 .ensures) ∙ c .before .before .before .before .if4 .left, compared _ t exceptionsText (c .before .before .same5 .ensures) ∙ c .before .if5 .left)
+    (c .letter-of .ensures)
 
 pub place-of-spec : {M : Type 1} → statement M
 place-of-spec =
@@ -70,5 +93,8 @@ place-of-spec =
     slice-aggregate-same-4
     same-requires-4
     returns-4
+    slice-aggregate-same-5
+    same-requires-5
+    returns-5
     letter-of-requires
-    returns-5)
+    returns-6)

@@ -1,12 +1,10 @@
 -- `processing_marks::vector::root_doubles` meets its contract.
 use Prim.Native.Nat.{_-_}
-use mathlib.Core.Path.{sym, _∙_}
 use native.Mathlib.Omega.{arith}
-use Rattle.place_marks.specs.Word.{mapIn}
-use Rattle.short_vectors.proofs.Loop.{Reaching, reach, reach-none, reach-on, reach-few, d-steps, m-steps, reach-again, reach-end}
 use lib.Ieee.{binary64}
 use Rattle.steps.specs.Root.{rootStep}
-use Rattle.processing_marks.proofs.Steps.{onMarks, root-marks}
+use Rattle.processing_marks.proofs.Steps.{onMarks}
+use Rattle.short_vectors.proofs.Loop.{Reaching, reach, reach-none, reach-on, reach-few, d-steps, m-steps, reach-again, reach-end}
 use borrow.Author.Needs.{needs}
 use Rattle.processing_marks.proofs.vector.root_doubles.Statement.{statement}
 use Rattle.processing_marks.proofs.vector.root_doubles.Tie as tie
@@ -27,10 +25,9 @@ root-doubles-spec =
     (λ c. omega (arith, reach (c .before .new .ensures)))
     (λ c. reach-none (c .before .new .ensures) (omega arith) (omega arith) (omega arith))
     (λ c κs. search needs)
-    (λ c κs. search needs)
-    (λ c. omega (arith, reach-few (c .before .before .before .loop .inv)))
-    (λ c. reach-end (c .before .before .before .before .loop .inv) (λ w. c .before .before .mark-double .ensures w ∙ rw (c .before .before .before .double-known .ensures w) (sym (root-marks (mapIn (c .before .before .before .before .loop .done) w) binary64 (c .before .before .before .before .before .before .before .args .control) (c .before .before .before .before .loop .dn) (c .before .before .before .before .loop .mn)))) (c .if1 .taken))
-    (λ c κs. d-steps (c .before .before .before .before .loop .inv .here))
-    (λ c κs. m-steps (c .before .before .before .before .before .loop .inv .here))
-    (λ c. omega (arith, reach-on (c .before .before .before .before .before .before .loop .inv)))
-    (λ c. reach-again (c .before .before .before .before .before .before .loop .inv) (λ w. c .before .before .before .before .mark-double .ensures w ∙ rw (c .before .before .before .before .before .double-known .ensures w) (sym (root-marks (mapIn (c .before .before .before .before .before .before .loop .done) w) binary64 (c .before .before .before .before .before .before .before .before .before .args .control) (c .before .before .before .before .before .before .loop .dn) (c .before .before .before .before .before .before .loop .mn)))) (omega arith) (c .before .step .ensures) (c .before .step .ensures) (c .second .ensures)))
+    (λ c. omega (arith, reach-few (c .before .before .loop .inv)))
+    (λ c. reach-end (c .before .before .before .loop .inv) (c .before .before .mark-root-double .ensures (c .before .before .before .before .before .before .args .control)) (c .if1 .taken))
+    (λ c κs. d-steps (c .before .before .before .loop .inv .here))
+    (λ c κs. m-steps (c .before .before .before .before .loop .inv .here))
+    (λ c. omega (arith, reach-on (c .before .before .before .before .before .loop .inv)))
+    (λ c. reach-again (c .before .before .before .before .before .loop .inv) (c .before .before .before .before .mark-root-double .ensures (c .before .before .before .before .before .before .before .before .args .control)) (omega arith) (c .before .step .ensures) (c .before .step .ensures) (c .second .ensures)))

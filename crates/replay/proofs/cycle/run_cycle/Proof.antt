@@ -65,7 +65,7 @@ returns c =
           (c₅ .machine-of .ensures) (c₃ .fill .ensures ∙ sym (window-is (now (start .args .bytes)) (length (now (start .args .window)))
           ((start .pre .0) .fitting))) (c₄ .word .ensures ∙ ap wordOfMarks
           (sym (known-is (now (start .args .bytes)) (length (now (start .args .window))) ((start .pre .0) .fitting))))
-          (c₂ .fill2 .ensures ∙ (ap (λ (n : ℕ). take n (drop (106 + (length (now (start .args .window)))) (numbersOf (now (start .args .bytes)))))
+          (c₂ .fill2 .ensures ∙ (ap (λ (n : ℕ). take n (drop (108 + (length (now (start .args .window)))) (numbersOf (now (start .args .bytes)))))
           (start .pre .1) ∙ sym (window-known-is (now (start .args .bytes)) (length (now (start .args .window))) ((start .pre .0) .fitting))))
           (c₁ .run-list .ensures .0),
       c₁ .run-list .ensures .1,

@@ -18,45 +18,39 @@ add-nth c = search needs
 nth-requires : tie.Need-nth-requires
 nth-requires c κs = search needs
 
-nth-requires-2 : tie.Need-nth-requires-2
-nth-requires-2 c κs = search needs
-
-index-requires : tie.Need-index-requires
-index-requires c κs = search needs
+list-count-requires : tie.Need-list-count-requires
+list-count-requires c κs = search needs
 
 slice-aggregate-fill-list : tie.Need-slice-aggregate-fill-list
 slice-aggregate-fill-list c = search needs
 
 fill-list-requires : tie.Need-fill-list-requires
 fill-list-requires c κs =
-    let c₁ = c .before .before in
-    let start = c₁ .before .before .before .before .before in (
+    let start = c .before .before .before .before .before .before in (
       start .pre .0,
-      c .before .index .ensures .0 ∙ c₁ .nth2 .ensures,
-      (count-fits (now (start .args .bytes)) (length (now (start .args .window))) (start .pre .0) (c .before .index .result)
-          (c .before .index .ensures .0 ∙ c₁ .nth2 .ensures) (start .pre .1)),
+      c .before .list-count .ensures .0,
+      (count-fits (now (start .args .bytes)) (length (now (start .args .window))) (start .pre .0) (c .before .list-count .result)
+          (c .before .list-count .ensures .0) (start .pre .1)),
     )
 
 array-share-prefix-list : tie.Need-array-share-prefix-list
 array-share-prefix-list c =
     let c₁ = c .before .before .before in
     let c₂ = c₁ .before .before in
-    let c₃ = c₂ .before in
-    let start = c₃ .before .before .before .before .before in
-    within-list (c₂ .index .result) (c₁ .fill-list .last .1 .1 .1 .0)
-    (count-fits (now (start .args .bytes)) (length (now (start .args .window))) (start .pre .0) (c₂ .index .result)
-    (c₂ .index .ensures .0 ∙ c₃ .nth2 .ensures) (start .pre .1)) (c₁ .fill-list .kept .1 .1 .1 .0)
+    let start = c₂ .before .before .before .before .before in
+    within-list (c₂ .list-count .result) (c₁ .fill-list .last .1 .1 .1 .0)
+    (count-fits (now (start .args .bytes)) (length (now (start .args .window))) (start .pre .0) (c₂ .list-count .result)
+    (c₂ .list-count .ensures .0) (start .pre .1)) (c₁ .fill-list .kept .1 .1 .1 .0)
 
 slice-aggregate-watch : tie.Need-slice-aggregate-watch
 slice-aggregate-watch c =
     let c₁ = c .before .before .before .before in
     let c₂ = c₁ .before .before in
-    let c₃ = c₂ .before in
-    let start = c₃ .before .before .before .before .before in
-    sym (length-take-le (c₂ .index .result) (c₁ .fill-list .last .1 .1 .1 .0)
-    (within-list (c₂ .index .result) (c₁ .fill-list .last .1 .1 .1 .0)
-    (count-fits (now (start .args .bytes)) (length (now (start .args .window))) (start .pre .0) (c₂ .index .result)
-    (c₂ .index .ensures .0 ∙ c₃ .nth2 .ensures) (start .pre .1)) (c₁ .fill-list .kept .1 .1 .1 .0)))
+    let start = c₂ .before .before .before .before .before in
+    sym (length-take-le (c₂ .list-count .result) (c₁ .fill-list .last .1 .1 .1 .0)
+    (within-list (c₂ .list-count .result) (c₁ .fill-list .last .1 .1 .1 .0)
+    (count-fits (now (start .args .bytes)) (length (now (start .args .window))) (start .pre .0) (c₂ .list-count .result)
+    (c₂ .list-count .ensures .0) (start .pre .1)) (c₁ .fill-list .kept .1 .1 .1 .0)))
 
 watch-requires : tie.Need-watch-requires
 watch-requires c κs = search needs
@@ -72,9 +66,9 @@ returns c =
     let c₁ = c .before .before .before .before in
     let c₂ = c₁ .before .before .before .before .before in
     let c₃ = c₂ .before .before in
-    let c₄ = c₃ .before .before in
+    let c₄ = c₃ .before in
     let start = c₄ .before .before .before .before in (
-      carried (c₄ .nth .result) _ (take (c₃ .index .result) (c₂ .fill-list .last .1 .1 .1 .0)) _ _ _ _ _ _ _ _ _ _ _
+      carried (c₄ .nth .result) _ (take (c₃ .list-count .result) (c₂ .fill-list .last .1 .1 .1 .0)) _ _ _ _ _ _ _ _ _ _ _
           (c₄ .nth .ensures ∙ sym (base-is (now (start .args .bytes)) (length (now (start .args .window))) (start .pre .0))) (c₂ .fill-list .ensures)
           refl refl refl refl (c₁ .watch .ensures .0, c₁ .watch .ensures .1),
       c₁ .watch .ensures .2,
@@ -87,8 +81,7 @@ run-list-spec =
     mul-nth
     add-nth
     nth-requires
-    nth-requires-2
-    index-requires
+    list-count-requires
     slice-aggregate-fill-list
     fill-list-requires
     array-share-prefix-list

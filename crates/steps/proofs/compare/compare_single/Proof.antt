@@ -1,6 +1,7 @@
 -- `steps::compare::compare_single` meets its contract.
+use Rattle.numbers.proofs.Flags.{flags-lt, compare-raises}
+use Rattle.steps.proofs.Flags.{same-exceptions}
 use borrow.Author.Needs.{needs}
-use Rattle.numbers.proofs.Flags.{flags-lt}
 use Rattle.steps.proofs.compare.compare_single.Statement.{statement}
 use Rattle.steps.proofs.compare.compare_single.Tie as tie
 
@@ -12,4 +13,5 @@ compare-single-spec =
     (λ c κs. search needs)
     (λ c κs. search needs)
     (λ c κs. rw (c .compare32 .ensures .0) (flags-lt _ _ _))
-    (λ c q v. rw (c .with-flags .ensures, c .before .compare32 .ensures .0, c .before .before .before .get-single .ensures, c .before .before .get-single2 .ensures)))
+    (λ c κs. rw (c .before .compare32 .ensures .1) (compare-raises _ _ _ _))
+    (λ c q v. rw (c .raise .ensures, c .before .with-flags .ensures, same-exceptions, c .before .before .compare32 .ensures .0, c .before .before .compare32 .ensures .1, c .before .before .before .before .get-single .ensures, c .before .before .before .get-single2 .ensures)))

@@ -1,6 +1,7 @@
 -- `steps::compare::compare_single_zero` meets its contract.
+use Rattle.numbers.proofs.Flags.{flags-lt, compare-raises}
+use Rattle.steps.proofs.Flags.{same-exceptions}
 use borrow.Author.Needs.{needs}
-use Rattle.numbers.proofs.Flags.{flags-lt}
 use Rattle.steps.proofs.compare.compare_single_zero.Statement.{statement}
 use Rattle.steps.proofs.compare.compare_single_zero.Tie as tie
 
@@ -11,4 +12,5 @@ compare-single-zero-spec =
     (λ c κs. search needs)
     (λ c κs. search needs)
     (λ c κs. rw (c .compare32 .ensures .0) (flags-lt _ _ _))
-    (λ c q v. rw (c .with-flags .ensures, c .before .compare32 .ensures .0, c .before .before .get-single .ensures)))
+    (λ c κs. rw (c .before .compare32 .ensures .1) (compare-raises _ _ _ _))
+    (λ c q v. rw (c .raise .ensures, c .before .with-flags .ensures, same-exceptions, c .before .before .compare32 .ensures .0, c .before .before .compare32 .ensures .1, c .before .before .before .get-single .ensures)))

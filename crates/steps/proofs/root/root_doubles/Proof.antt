@@ -1,18 +1,18 @@
 -- `steps::root::root_doubles` meets its contract.
 use Prim.Native.Nat.{_-_}
-use native.Mathlib.Omega.{arith}
-use lib.Ieee.{binary64}
-use borrow.Author.Needs.{needs}
+use Rattle.short_vectors.proofs.Loop.{Iterating, both, onBoth, initially, d-steps, m-steps, again, finally}
 use Rattle.steps.specs.Root.{rootStep}
-use Rattle.short_vectors.proofs.Loop.{Iterating, onSingles, initially, d-steps, m-steps, again, finally}
+use borrow.Author.Needs.{needs}
+use lib.Ieee.{binary64}
+use native.Mathlib.Omega.{arith}
 use Rattle.steps.proofs.root.root_doubles.Statement.{statement}
 use Rattle.steps.proofs.root.root_doubles.Tie as tie
 
 abbrev Inv-loop : tie.InvT-loop
-Inv-loop s₀ control vector count dn₀ mn₀ i₀ s dn mn i = Iterating onSingles binary64 control (λ d n m. rootStep binary64 control d m) dn₀ dn₀ mn₀ vector s₀ s dn dn mn i
+Inv-loop s₀ control fpscr vector count dn₀ mn₀ after₀ i₀ s dn mn after i = Iterating onBoth binary64 control (λ d n m. rootStep binary64 control d m) dn₀ dn₀ mn₀ vector (both fpscr s₀) (both after s) dn dn mn i
 
 abbrev μ-loop : tie.MeasureT-loop
-μ-loop s₀ control vector count dn₀ mn₀ i₀ s dn mn i = count - i
+μ-loop s₀ control fpscr vector count dn₀ mn₀ after₀ i₀ s dn mn after i = count - i
 
 pub root-doubles-spec : {M : Type 1} → statement M
 root-doubles-spec =

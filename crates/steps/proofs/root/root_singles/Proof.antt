@@ -1,18 +1,18 @@
 -- `steps::root::root_singles` meets its contract.
 use Prim.Native.Nat.{_-_}
-use native.Mathlib.Omega.{arith}
-use lib.Ieee.{binary32}
-use borrow.Author.Needs.{needs}
+use Rattle.short_vectors.proofs.Loop.{Iterating, both, onBoth, initially, d-steps, m-steps, again, finally}
 use Rattle.steps.specs.Root.{rootStep}
-use Rattle.short_vectors.proofs.Loop.{Iterating, onSingles, initially, d-steps, m-steps, again, finally}
+use borrow.Author.Needs.{needs}
+use lib.Ieee.{binary32}
+use native.Mathlib.Omega.{arith}
 use Rattle.steps.proofs.root.root_singles.Statement.{statement}
 use Rattle.steps.proofs.root.root_singles.Tie as tie
 
 abbrev Inv-loop : tie.InvT-loop
-Inv-loop s₀ control vector count dn₀ mn₀ i₀ s dn mn i = Iterating onSingles binary32 control (λ d n m. rootStep binary32 control d m) dn₀ dn₀ mn₀ vector s₀ s dn dn mn i
+Inv-loop s₀ control fpscr vector count dn₀ mn₀ after₀ i₀ s dn mn after i = Iterating onBoth binary32 control (λ d n m. rootStep binary32 control d m) dn₀ dn₀ mn₀ vector (both fpscr s₀) (both after s) dn dn mn i
 
 abbrev μ-loop : tie.MeasureT-loop
-μ-loop s₀ control vector count dn₀ mn₀ i₀ s dn mn i = count - i
+μ-loop s₀ control fpscr vector count dn₀ mn₀ after₀ i₀ s dn mn after i = count - i
 
 pub root-singles-spec : {M : Type 1} → statement M
 root-singles-spec =

@@ -4,10 +4,10 @@ use Rattle.test_watched.proofs.pairs.words.Statement.{statement}
 use Rattle.test_watched.proofs.pairs.words.Tie as tie
 
 abbrev Inv-loop : tie.InvT-loop
-Inv-loop seed w₀ x₀ i₀ w x i = i ≤ 12
+Inv-loop seed w₀ x₀ i₀ w x i = i ≤ 11
 
 abbrev μ-loop : tie.MeasureT-loop
-μ-loop seed w₀ x₀ i₀ w x i = 12 - i
+μ-loop seed w₀ x₀ i₀ w x i = 11 - i
 
 -- src/pairs.rt:97:5
 loop-holds : tie.Need-loop-holds Inv-loop μ-loop

@@ -4,10 +4,10 @@ use Rattle.test_watched.proofs.sides.add_words.Statement.{statement}
 use Rattle.test_watched.proofs.sides.add_words.Tie as tie
 
 abbrev Inv-loop : tie.InvT-loop
-Inv-loop k w x₀ i₀ x i = i ≤ 12
+Inv-loop k w x₀ i₀ x i = i ≤ 11
 
 abbrev μ-loop : tie.MeasureT-loop
-μ-loop k w x₀ i₀ x i = 12 - i
+μ-loop k w x₀ i₀ x i = 11 - i
 
 -- src/sides.rt:101:5
 loop-holds : tie.Need-loop-holds Inv-loop μ-loop

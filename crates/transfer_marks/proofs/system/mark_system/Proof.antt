@@ -3,7 +3,7 @@ use mathlib.Core.Path.{refl, sym, _∙_}
 use borrow.Author.Tests.{ne-eqb}
 use Rattle.machine.specs.Place.{core}
 use Rattle.bits.specs.Field.{field}
-use Rattle.place_marks.proofs.Places.{place-flags, place-control, place-exc, place-nzcv}
+use Rattle.place_marks.proofs.Places.{place-flags, place-control, place-exc, place-nzcv, place-exceptions}
 use Rattle.place_marks.specs.Word.{mapIn}
 use Rattle.meaning.proofs.Laws.{marked-once}
 use Rattle.transfer_marks.proofs.Transfers.{read-core, read-flags}
@@ -50,14 +50,17 @@ set-known-requires-2 c κs = search needs
 set-known-requires-3 : tie.Need-set-known-requires-3
 set-known-requires-3 c κs = search needs
 
-returns-3 : tie.Need-returns-3
-returns-3 c = λ st w. rw (sym (c .before .before .before .before .before .bit .ensures) ∙ c .before .before .before .before .if1 .left, sym (c .before .before .before .before .before .before .bits2 .ensures) ∙ c .before .before .if3 .taken) (marked-once _ _ _ _ (rw (place-control, c .before .set-known2 .ensures w, place-flags, c .before .before .before .core-known .ensures w, c .before .before .before .before .before .before .before .bits .ensures) at (c .set-known3 .ensures w)))
-
 set-known-requires-4 : tie.Need-set-known-requires-4
 set-known-requires-4 c κs = search needs
 
+returns-3 : tie.Need-returns-3
+returns-3 c = λ st w. rw (sym (c .before .before .before .before .before .before .bit .ensures) ∙ c .before .before .before .before .before .if1 .left, sym (c .before .before .before .before .before .before .before .bits2 .ensures) ∙ c .before .before .before .if3 .taken) (marked-once _ _ _ _ (rw (place-exceptions, c .before .set-known3 .ensures w, place-control, c .before .before .set-known2 .ensures w, place-flags, c .before .before .before .before .core-known .ensures w, c .before .before .before .before .before .before .before .before .bits .ensures) at (c .set-known4 .ensures w)))
+
+set-known-requires-5 : tie.Need-set-known-requires-5
+set-known-requires-5 c κs = search needs
+
 returns-4 : tie.Need-returns-4
-returns-4 c = λ st w. rw (sym (c .before .before .before .before .before .bit .ensures) ∙ c .before .before .before .before .if1 .left, sym (c .before .before .before .before .before .before .bits2 .ensures) ∙ c .before .if4 .taken) (marked-once _ _ _ _ (rw (place-exc, c .before .before .before .core-known .ensures w, c .before .before .before .before .before .before .before .bits .ensures) at (c .set-known4 .ensures w)))
+returns-4 c = λ st w. rw (sym (c .before .before .before .before .before .bit .ensures) ∙ c .before .before .before .before .if1 .left, sym (c .before .before .before .before .before .before .bits2 .ensures) ∙ c .before .if4 .taken) (marked-once _ _ _ _ (rw (place-exc, c .before .before .before .core-known .ensures w, c .before .before .before .before .before .before .before .bits .ensures) at (c .set-known5 .ensures w)))
 
 returns-5 : tie.Need-returns-5
 returns-5 c = λ st w. rw (sym (c .before .before .before .before .bit .ensures) ∙ c .before .before .before .if1 .left, ne-eqb _ _ (rw (c .before .before .before .before .before .bits2 .ensures) at (c .before .if3 .left)), ne-eqb _ _ (rw (c .before .before .before .before .before .bits2 .ensures) at (c .if4 .left))) (marked-once _ _ _ _ refl)
@@ -79,7 +82,8 @@ mark-system-spec =
     core-known-requires
     set-known-requires-2
     set-known-requires-3
-    returns-3
     set-known-requires-4
+    returns-3
+    set-known-requires-5
     returns-4
     returns-5)

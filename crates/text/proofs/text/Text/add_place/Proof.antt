@@ -1,5 +1,5 @@
 -- `text::text::Text::add_place` meets its contract.
-use Rattle.place_names.proofs.Names.{name-single, name-core, name-flags, name-control, name-fpexc, name-nzcv, name-word}
+use Rattle.place_names.proofs.Names.{name-single, name-core, name-flags, name-control, name-fpexc, name-nzcv, name-exceptions, name-word}
 use Rattle.text.proofs.Clipping.{added}
 use Rattle.text.specs.Text.{textOf, clip}
 use Prim.Native.Nat.{ℕ}
@@ -63,14 +63,23 @@ add-requires-4 c κs = search needs
 returns-6 : tie.Need-returns-6
 returns-6 c = c .add4 .ensures ∙ ap (λ (l : List ℕ). clip (textOf (c .before .before .before .before .before .before .before .before .args .self) ++ l)) (name-nzcv _ (c .before .before .before .if5 .left) (c .before .before .if6 .taken))
 
+slice-aggregate-add-5 : tie.Need-slice-aggregate-add-5
+slice-aggregate-add-5 c = search needs
+
+add-requires-5 : tie.Need-add-requires-5
+add-requires-5 c κs = search needs
+
+returns-7 : tie.Need-returns-7
+returns-7 c = c .add5 .ensures ∙ ap (λ (l : List ℕ). clip (textOf (c .before .before .before .before .before .before .before .before .before .args .self) ++ l)) (name-exceptions _ (c .before .before .before .if6 .left) (c .before .before .if7 .taken))
+
 push-requires-3 : tie.Need-push-requires-3
 push-requires-3 c κs = search needs
 
 add-decimal-requires-3 : tie.Need-add-decimal-requires-3
 add-decimal-requires-3 c κs = search needs
 
-returns-7 : tie.Need-returns-7
-returns-7 c = added (textOf (c .before .before .before .before .before .before .before .before .args .self)) _ _ _ _ _ (c .before .push3 .ensures) (c .add-decimal3 .ensures) (name-word _ (c .before .before .if6 .left))
+returns-8 : tie.Need-returns-8
+returns-8 c = added (textOf (c .before .before .before .before .before .before .before .before .before .args .self)) _ _ _ _ _ (c .before .push3 .ensures) (c .add-decimal3 .ensures) (name-word _ (c .before .before .if7 .left))
 
 pub add-place-spec : {M : Type 1} → statement M
 add-place-spec =
@@ -94,6 +103,9 @@ add-place-spec =
     slice-aggregate-add-4
     add-requires-4
     returns-6
+    slice-aggregate-add-5
+    add-requires-5
+    returns-7
     push-requires-3
     add-decimal-requires-3
-    returns-7)
+    returns-8)
