@@ -1,0 +1,2 @@
+// Where an unknown place came from in a word of one step.
+pub mod word;

@@ -1,0 +1,2 @@
+-- The laws of a watched run word by word.
+pub mod Reached

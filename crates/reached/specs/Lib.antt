@@ -1,0 +1,2 @@
+-- A watched run word by word.
+pub mod Point
