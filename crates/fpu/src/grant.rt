@@ -1,7 +1,7 @@
 // The words of a period, granted to routines.
 ghost use Rattle.outcomes.specs.Grant.{grantOutcome};
 ghost use Rattle.outcomes.specs.GrantPromise.{GrantPromise};
-use super::result::of_refusal;
+use state_calls::grant::grant_call;
 
 // What each routine is granted of a period.
 #[no_mangle]
@@ -14,6 +14,5 @@ pub extern "C" fn fpu_grant(
 ) -> u32
     ensures { λ r. ⌜ GrantPromise period (now (shares .entry)) (now (limits .entry)) (now (left .entry)) (now (grants .entry)) (grantOutcome r (now (grants .exit))) ⌝ }
 {
-    let refusal = grants::grant(period, shares, limits, left, grants);
-    of_refusal(refusal)
+    grant_call(period, shares, limits, left, grants)
 }

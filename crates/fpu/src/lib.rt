@@ -1,9 +1,9 @@
-// The C interface: a machine is a state of 53 words, places 0 to 52 in order. include/fpu.h says what callers have to know.
+// The C interface: a machine is a state of 53 words, places 0 to 52 in order. include/fpu.h says what callers have to know. Each exported function is one call
+// of a function that has the same contract.
 pub mod grant;
 pub mod operation;
 pub mod recorded;
 pub mod register_sheet;
-mod result;
 
 ghost use mathlib.Core.Path.{_≡_};
 ghost use mathlib.Core.List.{List, []};
@@ -13,44 +13,23 @@ ghost use Rattle.processing.specs.Data.{dataTree};
 ghost use Rattle.transfers.specs.Transfer.{transferTree};
 ghost use Rattle.vfp.specs.Call.{reply, loadStoreReply};
 ghost use Rattle.run.specs.Run.{runReply};
-ghost use Rattle.outcomes.specs.Outcome.{outcome, called, ran, validCall, renewed, checked};
+ghost use Rattle.outcomes.specs.Outcome.{outcome, called, ran, renewed, checked};
 ghost use Rattle.outcomes.specs.WatchOutcome.{watchOutcome};
 ghost use Rattle.outcomes.specs.WatchPromise.{WatchPromise};
-use answer::report_exit;
-use answer::report_stop;
-use bits::psr::Psr;
-use layout::state::decode;
-use layout::state::encode;
-use layout::state::is_valid;
-use machine::Machine;
-use machine::place;
-
-// Nothing was touched: a length, a bit of the state or thumb is not as it has to be.
-const INVALID_ARGUMENT: u32 = 255;
-
-// Whether a call's arguments are valid.
-fn is_valid_call(state: &[u32], thumb: u32, words: usize) -> bool
-    ensures { λ r. ⌜ r ≡ validCall (now (state .entry)) thumb words ⌝ }
-{
-    if 1 < thumb {
-        return false;
-    }
-    if words != 5 {
-        return false;
-    }
-    is_valid(state)
-}
+use ported_calls::coprocessor_load_store_call;
+use ported_calls::coprocessor_register_call;
+use ported_calls::data_processing_call;
+use run_calls::run_call;
+use run_calls::watch_call;
+use state_calls::check_condition_call;
+use state_calls::new_call;
 
 // A new machine's state.
 #[no_mangle]
 pub extern "C" fn fpu_new(state: &mut [u32]) -> u32
     ensures { λ r. ⌜ outcome r (now (state .exit)) [] [] ≡ renewed (now (state .entry)) ⌝ }
 {
-    if state.len() != place::WINDOW {
-        return INVALID_ARGUMENT;
-    }
-    encode(Machine::new(), state);
-    0
+    new_call(state)
 }
 
 // Arithmetic, moves, compares and conversions.
@@ -63,14 +42,7 @@ pub extern "C" fn fpu_data_processing(
 ) -> u32
     ensures { λ r. ⌜ ((v : List ℕ) → outcome r (now (state .exit)) v (now (answer .exit)) ≡ called (reply (dataTree (eqb thumb 1) word)) (now (state .entry)) v thumb (now (answer .entry))) ⌝ }
 {
-    if !is_valid_call(state, thumb, answer.len()) {
-        return INVALID_ARGUMENT;
-    }
-    let machine = decode(state, thumb == 1);
-    let done = vfp::data_processing(machine, word);
-    let exit = done.exit;
-    encode(done.machine, state);
-    report_exit(exit, answer)
+    data_processing_call(state, thumb, word, answer)
 }
 
 // Transfers between singles, system registers and core registers.
@@ -83,14 +55,7 @@ pub extern "C" fn fpu_coprocessor_register(
 ) -> u32
     ensures { λ r. ⌜ ((v : List ℕ) → outcome r (now (state .exit)) v (now (answer .exit)) ≡ called (reply (transferTree (eqb thumb 1) word)) (now (state .entry)) v thumb (now (answer .entry))) ⌝ }
 {
-    if !is_valid_call(state, thumb, answer.len()) {
-        return INVALID_ARGUMENT;
-    }
-    let machine = decode(state, thumb == 1);
-    let done = vfp::coprocessor_register(machine, word);
-    let exit = done.exit;
-    encode(done.machine, state);
-    report_exit(exit, answer)
+    coprocessor_register_call(state, thumb, word, answer)
 }
 
 // Loads, stores and pairs.
@@ -105,14 +70,7 @@ pub extern "C" fn fpu_coprocessor_load_store(
 ) -> u32
     ensures { λ r. ⌜ outcome r (now (state .exit)) (now (window .exit)) (now (answer .exit)) ≡ called (loadStoreReply base word) (now (state .entry)) (now (window .entry)) thumb (now (answer .entry)) ⌝ }
 {
-    if !is_valid_call(state, thumb, answer.len()) {
-        return INVALID_ARGUMENT;
-    }
-    let machine = decode(state, thumb == 1);
-    let done = vfp::coprocessor_load_store(machine, window, base, word);
-    let exit = done.exit;
-    encode(done.machine, state);
-    report_exit(exit, answer)
+    coprocessor_load_store_call(state, window, base, thumb, word, answer)
 }
 
 // The plain run of a list of words.
@@ -127,15 +85,7 @@ pub extern "C" fn fpu_run(
 ) -> u32
     ensures { λ r. ⌜ outcome r (now (state .exit)) (now (window .exit)) (now (answer .exit)) ≡ ran (runReply base (now (list .entry))) (now (state .entry)) (now (window .entry)) thumb (now (answer .entry)) ⌝ }
 {
-    if !is_valid_call(state, thumb, answer.len()) {
-        return INVALID_ARGUMENT;
-    }
-    let machine = decode(state, thumb == 1);
-    let done = run::run(machine, window, base, list);
-    let stop = done.stop;
-    let count = done.count;
-    encode(done.machine, state);
-    report_stop(stop, count, 0, answer)
+    run_call(state, window, base, thumb, list, answer)
 }
 
 // The watched run of a list of words. The marks are one word, bit p for place p.
@@ -152,17 +102,16 @@ pub extern "C" fn fpu_watch(
 ) -> u32
     ensures { λ r. ⌜ WatchPromise base (now (list .entry)) (now (state .entry)) (now (marks .entry)) (now (window .entry)) (now («window_marks» .entry)) thumb (now (answer .entry)) (watchOutcome r (now (state .exit)) (now (marks .exit)) (now (window .exit)) (now («window_marks» .exit)) (now (answer .exit))) ⌝ }
 {
-    if !is_valid_call(state, thumb, answer.len()) {
-        return INVALID_ARGUMENT;
-    }
-    let machine = decode(state, thumb == 1);
-    let done = watch::watch(machine, *marks, window, window_marks, base, list);
-    let stop = done.stop;
-    let count = done.count;
-    let known = done.known;
-    *marks = done.marks;
-    encode(done.machine, state);
-    report_stop(stop, count, known, answer)
+    watch_call(
+        state,
+        marks,
+        window,
+        window_marks,
+        base,
+        thumb,
+        list,
+        answer,
+    )
 }
 
 // Whether an instruction of a condition, in its low four bits, is executed under the flags of place 51.
@@ -170,11 +119,5 @@ pub extern "C" fn fpu_watch(
 pub extern "C" fn fpu_check_condition(condition: u32, nzcv: u32) -> u32
     ensures { λ r. ⌜ r ≡ checked condition nzcv ⌝ }
 {
-    if nzcv % 0x1000_0000 != 0 {
-        return INVALID_ARGUMENT;
-    }
-    if bits::psr::check_condition(condition, Psr::from_bits(nzcv)) {
-        return 1;
-    }
-    0
+    check_condition_call(condition, nzcv)
 }
