@@ -1,4 +1,4 @@
-/* The floating point unit: libfpu.a, built by `rt staticlib fpu` for x86-64 Linux. It needs the C library's memcpy.
+/* The floating point unit: libfpu.a, built by `rt staticlib fpu` for x86-64 Linux. It needs memcpy and memset of the C library.
  *
  * The caller's duties: each pointer is valid for as many elements as its length says, aligned for its type, and not null (for a
  * length of 0 too: any aligned address will do); lent buffers do not overlap, and nothing else reads or writes them during a
@@ -17,9 +17,13 @@ extern "C" {
 /* Lengths, in words. */
 #define FPU_STATE_WORDS 53
 #define FPU_ANSWER_WORDS 5
+#define FPU_ORIGIN_ANSWER_WORDS 8 /* of fpu_origin */
 #define FPU_WINDOW_MOST_WORDS 16384
 #define FPU_LIST_MOST_WORDS 4096
 #define FPU_MOST_ROUTINES 8
+
+/* How many pairs a chain has at most for each word that was run, and fpu_origin's list has to hold. */
+#define FPU_PAIRS_PER_WORD 8
 
 /* The length of a register sheet, in bytes: 16 lines of 40 characters and a line feed. */
 #define FPU_SHEET_BYTES 656
@@ -49,32 +53,38 @@ extern "C" {
 #define FPU_ANSWER_PLACE 1
 #define FPU_ANSWER_ADDRESS 2
 #define FPU_ANSWER_WORD 3
-#define FPU_ANSWER_KNOWN 4 /* of fpu_watch and fpu_replay, refusals included: how many places are known, the window's among them */
+#define FPU_ANSWER_KNOWN 4 /* of fpu_watch, fpu_origin and fpu_replay, refusals included: how many places are known, the window's among them */
+#define FPU_ANSWER_ORIGIN_REFUSAL 5 /* of fpu_origin only: 0, or 111 to 113 */
+#define FPU_ANSWER_FIRST 6          /* of fpu_origin only: the chain's first place */
+#define FPU_ANSWER_PAIRS 7          /* of fpu_origin only: how many pairs the chain has */
 
 /* Results: kinds. */
 #define FPU_FINISHED 0  /* of a call: nothing to report */
 #define FPU_FOREIGN 1   /* of runs only */
 #define FPU_UNDEFINED 2 /* has an address and a word */
 #define FPU_BRANCHED 3
-#define FPU_HANGS 4     /* of the watched run only; has a place */
+#define FPU_HANGS 4     /* of watched runs only; has a place */
 #define FPU_REFUSED 100 /* 100 + n for refusal n; everything is as it came (fpu_replay: its window is), and the answer's words but FPU_ANSWER_KNOWN, or grants, are 0 */
 #define FPU_REFUSED_LIST_LONG 101        /* of runs only: more than 4,096 words */
 #define FPU_REFUSED_WINDOW_LONG 102      /* more than 16,384 words */
 #define FPU_REFUSED_BASE_ALIGNMENT 103   /* the base is no multiple of 4 */
 #define FPU_REFUSED_WINDOW_END 104       /* base + 4 * words exceeds 2^32 */
 #define FPU_REFUSED_THUMB 105            /* of runs only: thumb is 1 */
-#define FPU_REFUSED_WINDOW_MARKS 106     /* of the watched run only: not as many window marks as window words */
-#define FPU_REFUSED_WINDOW_MARK 107      /* of the watched run only: a window mark that is neither 0 nor 1 */
+#define FPU_REFUSED_WINDOW_MARKS 106     /* of watched runs only: not as many window marks as window words */
+#define FPU_REFUSED_WINDOW_MARK 107      /* of watched runs only: a window mark that is neither 0 nor 1 */
 #define FPU_REFUSED_PAGE 108             /* of fpu_sheet only: a page of fewer than 656 bytes */
 #define FPU_REFUSED_RECORD_SIZE 109      /* of fpu_replay only: bit 31 of the first number clear, not as many bytes as the counts call for, fewer
                                           * than 53 state words, or another number of words or marks lent than the record's window has */
 #define FPU_REFUSED_RECORD_STATE 110     /* of fpu_replay only: a bit outside a place's own, or a mark before the window that is neither 0 nor 1 */
+#define FPU_REFUSED_PLACE 111            /* of fpu_origin only, in its answer: the place is beyond the map */
+#define FPU_REFUSED_KNOWN 112            /* of fpu_origin only, in its answer: the place is known after the run */
+#define FPU_REFUSED_PAIRS 113            /* of fpu_origin only, in its answer: the list holds fewer than 8 pairs for each word that was run */
 #define FPU_REFUSED_ROUTINES 114         /* of fpu_grant only: no routine or more than eight */
 #define FPU_REFUSED_SHARE 115            /* of fpu_grant only: a share above its limit */
 #define FPU_REFUSED_SHARES 116           /* of fpu_grant only: shares that add up to more than the period */
 
 /* Tested first, touching nothing: a state or an answer of another length, a bit of the state outside a place's own, a thumb that is neither 0
- * nor 1; lists of unequal lengths. */
+ * nor 1; a list of pairs with half a pair; lists of unequal lengths. */
 #define FPU_INVALID_ARGUMENT 255
 
 /* Makes the state a new machine's: all zero but FPEXC, 0x40000000. Gives FPU_FINISHED, or FPU_INVALID_ARGUMENT where it has not 53 words. */
@@ -108,6 +118,22 @@ uint32_t fpu_run(uint32_t *state, size_t state_words, uint32_t *window, size_t w
 uint32_t fpu_watch(uint32_t *state, size_t state_words, uint64_t *marks, uint32_t *window, size_t window_words, uint8_t *window_marks,
                    size_t window_marks_bytes, uint32_t base, uint32_t thumb, const uint32_t *list, size_t list_words,
                    uint32_t *answer, size_t answer_words);
+
+/* The watched run, and where a place that is unknown after it came from. All that fpu_watch gives and leaves, this gives and leaves. Places are
+ * numbered as in a state, and word i of the window is 53 + i. The chain of a place is a first place, which is unknown at the start, and pairs of
+ * a word's index in the list, from 0, and a place, which go to `pairs`, index and place in turn. A pair is a link: a step of that word (an iteration
+ * of a vector, a register of a load or store, a transfer) reads the place before for the mark of the pair's place, and leaves that unknown. Indices
+ * never fall; several steps of a word repeat its index. No step writes a place of the chain between the link that reaches it, or the start,
+ * and the link that reads it, or the end, where the chain is at the place asked for. A place that no step wrote is its own chain, without pairs. There is
+ * a chain for every unknown place; which of several is given is left open.
+ *
+ * The answer has FPU_ORIGIN_ANSWER_WORDS words. After a run that is refused the last three are 0. Else FPU_ANSWER_ORIGIN_REFUSAL is the first of
+ * 111 to 113 that applies, the other two then being 0, or 0, and FPU_ANSWER_FIRST is the first place and FPU_ANSWER_PAIRS the number of
+ * pairs: at most FPU_PAIRS_PER_WORD for each word that was run. 2 * FPU_PAIRS_PER_WORD words for each word of `list` are always enough. `pairs`
+ * beyond the chain's is as it came, and all of it is where there is no chain. */
+uint32_t fpu_origin(uint32_t *state, size_t state_words, uint64_t *marks, uint32_t *window, size_t window_words, uint8_t *window_marks,
+                    size_t window_marks_bytes, uint32_t base, uint32_t thumb, const uint32_t *list, size_t list_words, uint32_t place,
+                    uint32_t *pairs, size_t pairs_words, uint32_t *answer, size_t answer_words);
 
 /* Replays a recorded cycle under the watch. A record is bytes, each number 32 bits, little end first: how many instruction words, with bit 31
  * set, which is no part of the count, how many state words, the value of each state word, the mark of each, the base, the instruction words. The

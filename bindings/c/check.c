@@ -5,7 +5,10 @@
 #include <stdio.h>
 #include <string.h>
 
-enum call { DATA_PROCESSING, COPROCESSOR_REGISTER, COPROCESSOR_LOAD_STORE, RUN, WATCH, CALLS };
+enum call { DATA_PROCESSING, COPROCESSOR_REGISTER, COPROCESSOR_LOAD_STORE, RUN, WATCH, ORIGIN, CALLS };
+
+/* so many words more has the answer of fpu_origin than the others, and so many pairs are lent to it */
+enum { ORIGIN_MORE = FPU_ORIGIN_ANSWER_WORDS - FPU_ANSWER_WORDS, PAIRS = 40 };
 
 /* What is passed to a call; each buffer has an element more than a call may touch. */
 struct passed {
@@ -19,8 +22,10 @@ struct passed {
     uint32_t base, thumb, word;
     uint32_t list[FPU_LIST_MOST_WORDS + 1];
     size_t list_words;
-    uint32_t answer[FPU_ANSWER_WORDS + 1];
-    size_t answer_words;
+    uint32_t place, pairs[2 * PAIRS + 1];
+    size_t pairs_words;
+    uint32_t answer[FPU_ORIGIN_ANSWER_WORDS + 1];
+    size_t answer_words; /* without ORIGIN_MORE */
 };
 
 static struct passed given, p;
@@ -51,6 +56,16 @@ static void result(uint32_t got, uint32_t expected)
         seen[got] = 1;
 }
 
+/* What fpu_origin's answer has to have in its last words; s0 being known, there is no chain to it. */
+static uint32_t origin_answer[ORIGIN_MORE];
+
+static void origin(uint32_t refusal, uint32_t first, uint32_t pairs)
+{
+    origin_answer[0] = refusal;
+    origin_answer[1] = first;
+    origin_answer[2] = pairs;
+}
+
 /* A new machine in ARM state, all of it known, a window of four words, and an answer that has to be overwritten. */
 static void fresh(const char *name)
 {
@@ -66,9 +81,12 @@ static void fresh(const char *name)
     for (uint32_t i = 0; i < FPU_WINDOW_MOST_WORDS + 1; i++)
         p.window[i] = 7 + i;
     p.base = 0x8000;
+    p.pairs_words = 2 * PAIRS;
+    memset(p.pairs, 0x5A, sizeof p.pairs);
     p.answer_words = FPU_ANSWER_WORDS;
-    for (int i = 0; i < FPU_ANSWER_WORDS + 1; i++)
+    for (int i = 0; i < FPU_ORIGIN_ANSWER_WORDS + 1; i++)
         p.answer[i] = 0xA5A5A5A5;
+    origin(FPU_REFUSED_KNOWN, 0, 0);
 }
 
 static void list(const uint32_t *words, size_t count)
@@ -77,8 +95,9 @@ static void list(const uint32_t *words, size_t count)
     p.list_words = count;
 }
 
-/* Whether the last call has marks: then the answer says how many places they call known. */
+/* Whether the last call has marks: then the answer says how many places they call known. And how many words its answer has. */
 static int watched;
+static size_t answered;
 
 static uint32_t known(void)
 {
@@ -93,7 +112,8 @@ static uint32_t known(void)
 static uint32_t made(enum call call)
 {
     given = p;
-    watched = call == WATCH;
+    watched = call == WATCH || call == ORIGIN;
+    answered = call == ORIGIN ? FPU_ORIGIN_ANSWER_WORDS : FPU_ANSWER_WORDS;
     switch (call) {
     case DATA_PROCESSING:
         return fpu_data_processing(p.state, p.state_words, p.thumb, p.word, p.answer, p.answer_words);
@@ -105,9 +125,12 @@ static uint32_t made(enum call call)
     case RUN:
         return fpu_run(p.state, p.state_words, p.window, p.window_words, p.base, p.thumb, p.list, p.list_words, p.answer,
                        p.answer_words);
-    default:
+    case WATCH:
         return fpu_watch(p.state, p.state_words, p.marks, p.window, p.window_words, p.window_marks, p.window_marks_bytes, p.base,
                          p.thumb, p.list, p.list_words, p.answer, p.answer_words);
+    default:
+        return fpu_origin(p.state, p.state_words, p.marks, p.window, p.window_words, p.window_marks, p.window_marks_bytes, p.base,
+                          p.thumb, p.list, p.list_words, p.place, p.pairs, p.pairs_words, p.answer, p.answer_words + ORIGIN_MORE);
     }
 }
 
@@ -118,7 +141,11 @@ static void answer(uint32_t count, uint32_t place, uint32_t address, uint32_t wo
     same("the address", p.answer[FPU_ANSWER_ADDRESS], address);
     same("the word", p.answer[FPU_ANSWER_WORD], word);
     same("the known places", p.answer[FPU_ANSWER_KNOWN], known());
-    same("what stands after the answer", p.answer[FPU_ANSWER_WORDS], 0xA5A5A5A5);
+    for (size_t i = FPU_ANSWER_WORDS; i < answered; i++)
+        same("a word on the origin", p.answer[i], origin_answer[i - FPU_ANSWER_WORDS]);
+    if (answered == FPU_ORIGIN_ANSWER_WORDS && p.answer[FPU_ANSWER_ORIGIN_REFUSAL] < 256)
+        seen[p.answer[FPU_ANSWER_ORIGIN_REFUSAL]] = 1;
+    same("what stands after the answer", p.answer[answered], 0xA5A5A5A5);
 }
 
 /* Places that have other words than were passed are named; all others have to be as they came. */
@@ -135,10 +162,12 @@ static void unchanged(void)
     same_bytes("the window", p.window, given.window, sizeof p.window);
     same_bytes("the window marks", p.window_marks, given.window_marks, sizeof p.window_marks);
     same_bytes("the list", p.list, given.list, sizeof p.list);
+    same_bytes("the pairs", p.pairs, given.pairs, sizeof p.pairs);
 }
 
 static void refused(enum call call, uint32_t n)
 {
+    origin(0, 0, 0);
     result(made(call), FPU_REFUSED + n);
     answer(0, 0, 0, 0);
     unchanged();
@@ -331,10 +360,13 @@ static void runs(void)
     changed(FPU_PLACE_R0 + 15, 4);
     unchanged();
 
-    for (int place = 0; place < FPU_STATE_WORDS; place++) {
+    for (int i = 0; i < 2 * FPU_STATE_WORDS; i++) {
+        uint32_t place = (uint32_t)i / 2;
         fresh("a place that is unknown, with bits above the last place");
         p.marks[0] = FPU_MARKS_ALL ^ FPU_MARK(place) ^ 0xA560000000000000;
-        result(made(WATCH), FPU_FINISHED);
+        p.place = place;
+        origin(0, place, 0);
+        result(made(i % 2 ? ORIGIN : WATCH), FPU_FINISHED);
         answer(0, 0, 0, 0);
         given.marks[0] = FPU_MARKS_ALL ^ FPU_MARK(place);
         unchanged();
@@ -419,6 +451,102 @@ static void marks_of_exceptions(void)
     marked("r0 to FPSCR, r0 unknown", 0xEEE10A10, r0, r0 | flags | control | e);
 }
 
+/* LIST with s0 unknown hangs on place 51, after three words: what it leaves, asked for a place with so much room for pairs. */
+static void hung(const char *name, uint32_t place, size_t pairs_words)
+{
+    fresh(name);
+    list(LIST, 4);
+    p.marks[0] &= ~FPU_MARK(FPU_PLACE_S0);
+    p.place = place;
+    p.pairs_words = pairs_words;
+}
+
+/* Calls, with the chain expected: its pairs are the first of the list, and all else of it is as it came. */
+static void chained(uint32_t first, const uint32_t *pairs, uint32_t count)
+{
+    origin(0, first, count);
+    result(made(ORIGIN), FPU_HANGS);
+    answer(3, FPU_PLACE_NZCV, 0, 0);
+    for (uint32_t i = 0; i < 2 * count; i++) {
+        same("a word of the pairs", p.pairs[i], pairs[i]);
+        given.pairs[i] = pairs[i];
+    }
+    given.marks[0] &= ~(FPU_MARK(FPU_PLACE_FPSCR_FLAGS) | FPU_MARK(FPU_PLACE_NZCV) | FPU_MARK(FPU_PLACE_FPSCR_EXCEPTIONS));
+    changed(FPU_PLACE_R0 + 15, 12);
+    changed(FPU_PLACE_FPSCR_FLAGS, 0x60000000);
+    changed(FPU_PLACE_NZCV, 0x60000000);
+    unchanged();
+}
+
+static void origin_refused(uint32_t refusal)
+{
+    origin(refusal, 0, 0);
+    result(made(ORIGIN), FPU_HANGS);
+    answer(3, FPU_PLACE_NZCV, 0, 0);
+    given.marks[0] = p.marks[0];
+    memcpy(given.state, p.state, sizeof given.state);
+    unchanged();
+}
+
+static void origins(void)
+{
+    static const uint32_t nzcv[] = {0, 0, 1, 48, 2, 51};
+    enum { ROOM = 2 * 3 * FPU_PAIRS_PER_WORD };
+    hung("the origin of a hang", FPU_PLACE_NZCV, 2 * PAIRS);
+    chained(0, nzcv, 3);
+    hung("the origin of a hang, no more room than has to be", FPU_PLACE_NZCV, ROOM);
+    chained(0, nzcv, 3);
+    hung("the origin of the flags", FPU_PLACE_FPSCR_FLAGS, ROOM);
+    chained(0, nzcv, 2);
+    hung("the origin of s0", FPU_PLACE_S0, ROOM);
+    chained(0, nzcv, 1);
+
+    hung("a place beyond the map", FPU_STATE_WORDS + 4, ROOM);
+    origin_refused(FPU_REFUSED_PLACE);
+    hung("a place far beyond the map, with no room", 0xFFFFFFFF, 0);
+    origin_refused(FPU_REFUSED_PLACE);
+    hung("the last place of the map, which is known", FPU_STATE_WORDS + 3, ROOM);
+    origin_refused(FPU_REFUSED_KNOWN);
+    hung("a place that is known, with no room", FPU_PLACE_S0 + 1, 0);
+    origin_refused(FPU_REFUSED_KNOWN);
+    hung("a pair too few", FPU_PLACE_NZCV, ROOM - 2);
+    origin_refused(FPU_REFUSED_PAIRS);
+    hung("no pairs", FPU_PLACE_S0, 0);
+    origin_refused(FPU_REFUSED_PAIRS);
+
+    /* no words: an unknown place is its own chain, with no room too */
+    for (uint32_t place = 0; place < FPU_STATE_WORDS + 4; place++) {
+        fresh("a place that is never written");
+        p.marks[0] = 0;
+        memset(p.window_marks, 0, 4);
+        p.place = place;
+        p.pairs_words = place % 2 * 2;
+        origin(0, place, 0);
+        result(made(ORIGIN), FPU_FINISHED);
+        answer(0, 0, 0, 0);
+        unchanged();
+    }
+
+    fresh("a word of the window, stored and loaded");
+    list((const uint32_t[]){0xED800A01, 0xEDD01A01}, 2); /* FSTS s0, [r0, 4]; FLDS s3, [r0, 4] */
+    p.state[0] = 5;
+    p.state[FPU_PLACE_R0] = 0x8000;
+    p.marks[0] &= ~FPU_MARK(0);
+    p.place = 3;
+    origin(0, 0, 2);
+    result(made(ORIGIN), FPU_FINISHED);
+    answer(2, 0, 0, 0);
+    same_bytes("the pairs", p.pairs, (const uint32_t[]){0, FPU_STATE_WORDS + 1, 1, 3}, 4 * sizeof *p.pairs);
+    memcpy(given.pairs, p.pairs, 4 * sizeof *p.pairs);
+    same("the word stored", p.window[1], 5);
+    given.window[1] = 5;
+    given.window_marks[1] = 0;
+    given.marks[0] &= ~FPU_MARK(3);
+    changed(3, 5);
+    changed(FPU_PLACE_R0 + 15, 8);
+    unchanged();
+}
+
 static void refusals(void)
 {
     for (int call = COPROCESSOR_LOAD_STORE; call < CALLS; call++) {
@@ -457,24 +585,28 @@ static void refusals(void)
         p.thumb = 1;
         refused(call, 5);
     }
-    fresh("a window mark too few");
-    list(LIST, 4);
-    p.window_marks_bytes = 3;
-    p.window_marks[1] = 2;
-    p.marks[0] ^= 0xA560000000000000;
-    refused(WATCH, 6);
+    for (int call = WATCH; call < CALLS; call++) {
+        fresh("a window mark too few");
+        list(LIST, 4);
+        p.window_marks_bytes = 3;
+        p.window_marks[1] = 2;
+        p.marks[0] ^= 0xA560000000000000;
+        refused(call, 6);
 
-    fresh("a window mark of 2");
-    list(LIST, 4);
-    p.window_marks[3] = 2;
-    p.marks[0] = ~(uint64_t)0;
-    refused(WATCH, 7);
+        fresh("a window mark of 2");
+        list(LIST, 4);
+        p.window_marks[3] = 2;
+        p.marks[0] = ~(uint64_t)0;
+        p.place = 1000;
+        p.pairs_words = 0;
+        refused(call, 7);
+    }
 }
 
 static void invalid_arguments(void)
 {
     for (int call = 0; call < CALLS; call++) {
-        for (int sort = 0; sort < 10; sort++) {
+        for (int sort = 0; sort < (call == ORIGIN ? 12 : 10); sort++) {
             /* every word here is one that a call refuses or acts upon */
             fresh("an invalid argument");
             p.word = call == COPROCESSOR_REGISTER ? TO_R15 : call == DATA_PROCESSING ? ADD : LOAD;
@@ -492,7 +624,9 @@ static void invalid_arguments(void)
             case 6: p.state[FPU_PLACE_FPSCR_CONTROL] = 0x10000000; break;
             case 7: p.state[FPU_PLACE_FPSCR_CONTROL] = 0x00000010; break;
             case 8: p.state[FPU_PLACE_FPSCR_EXCEPTIONS] = 0x00000020; break;
-            default: p.state[FPU_PLACE_NZCV] = 0x00000001; break;
+            case 9: p.state[FPU_PLACE_NZCV] = 0x00000001; break;
+            case 10: p.pairs_words++; break;
+            default: p.pairs_words = 1; break;
             }
             invalid(call);
         }
@@ -647,13 +781,14 @@ int main(void)
 {
     static const uint32_t every[] = {FPU_FINISHED, FPU_FOREIGN, FPU_UNDEFINED, FPU_BRANCHED, FPU_HANGS, FPU_REFUSED_LIST_LONG,
                                      FPU_REFUSED_WINDOW_LONG, FPU_REFUSED_BASE_ALIGNMENT, FPU_REFUSED_WINDOW_END, FPU_REFUSED_THUMB,
-                                     FPU_REFUSED_WINDOW_MARKS, FPU_REFUSED_WINDOW_MARK, FPU_REFUSED_PAGE, FPU_REFUSED_ROUTINES, FPU_REFUSED_SHARE,
-                                     FPU_REFUSED_SHARES, FPU_INVALID_ARGUMENT};
+                                     FPU_REFUSED_WINDOW_MARKS, FPU_REFUSED_WINDOW_MARK, FPU_REFUSED_PAGE, FPU_REFUSED_PLACE, FPU_REFUSED_KNOWN,
+                                     FPU_REFUSED_PAIRS, FPU_REFUSED_ROUTINES, FPU_REFUSED_SHARE, FPU_REFUSED_SHARES, FPU_INVALID_ARGUMENT};
     new_machine();
     single_calls();
     runs();
     exceptions();
     marks_of_exceptions();
+    origins();
     refusals();
     invalid_arguments();
     conditions();

@@ -6,6 +6,12 @@ pub const STATE_WORDS: usize = 53;
 /// the marks of a machine of which every place is known: bit p is that of place p.
 pub const MARKS_ALL: u64 = (1 << STATE_WORDS) - 1;
 pub const ANSWER_WORDS: usize = 5;
+/// the answer's words of `origin`.
+pub const ORIGIN_ANSWER_WORDS: usize = 8;
+/// how many pairs a chain has at most for each word that was run.
+pub const PAIRS_PER_WORD: usize = 8;
+/// the most words of a list.
+pub const LIST_MOST_WORDS: usize = 4096;
 /// the bytes of a register sheet: 16 lines of 40 characters and a line feed.
 pub const SHEET_BYTES: usize = 656;
 
@@ -57,6 +63,24 @@ extern "C" {
         thumb: u32,
         list: *const u32,
         list_words: usize,
+        answer: *mut u32,
+        answer_words: usize,
+    ) -> c_uint;
+    fn fpu_origin(
+        state: *mut u32,
+        state_words: usize,
+        marks: *mut u64,
+        window: *mut u32,
+        window_words: usize,
+        window_marks: *mut u8,
+        window_marks_bytes: usize,
+        base: u32,
+        thumb: u32,
+        list: *const u32,
+        list_words: usize,
+        place: u32,
+        pairs: *mut u32,
+        pairs_words: usize,
         answer: *mut u32,
         answer_words: usize,
     ) -> c_uint;
@@ -166,6 +190,41 @@ pub mod raw {
         }
     }
 
+    #[allow(clippy::too_many_arguments)]
+    pub fn origin(
+        state: &mut [u32],
+        marks: &mut u64,
+        window: &mut [u32],
+        window_marks: &mut [u8],
+        base: u32,
+        thumb: u32,
+        list: &[u32],
+        place: u32,
+        pairs: &mut [u32],
+        answer: &mut [u32],
+    ) -> u32 {
+        unsafe {
+            super::fpu_origin(
+                state.as_mut_ptr(),
+                state.len(),
+                marks,
+                window.as_mut_ptr(),
+                window.len(),
+                window_marks.as_mut_ptr(),
+                window_marks.len(),
+                base,
+                thumb,
+                list.as_ptr(),
+                list.len(),
+                place,
+                pairs.as_mut_ptr(),
+                pairs.len(),
+                answer.as_mut_ptr(),
+                answer.len(),
+            )
+        }
+    }
+
     pub fn replay(
         record: &[u8],
         state: &mut [u32],
@@ -253,6 +312,14 @@ pub struct Ran {
 #[derive(Clone, Copy, PartialEq, Eq, Debug)]
 pub struct InvalidArgument;
 
+/// Where an unknown place came from: a place that is unknown at the start, and the links to the place asked for, each the index of a word in the list,
+/// from 0, and the place that a step of it made unknown.
+#[derive(Clone, PartialEq, Eq, Debug)]
+pub struct Chain {
+    pub first: u32,
+    pub links: Vec<(u32, u32)>,
+}
+
 /// A machine: the 53 words of its state, and its Thumb bit.
 #[derive(Clone, Copy, PartialEq, Eq, Debug)]
 pub struct Machine {
@@ -331,6 +398,30 @@ impl Machine {
     ) -> Result<Ran, InvalidArgument> {
         let mut answer = [0; ANSWER_WORDS];
         ran(raw::watch(&mut self.state, marks, window, window_marks, base, self.thumb as u32, list, &mut answer), answer)
+    }
+
+    /// the watched run, and where a place came from that is unknown after it; word i of the window is place 53 + i. Turned away: the run's refusal, which
+    /// is its stop too, or 11 where the place is beyond the map, or 12 where it is known after the run.
+    pub fn origin(
+        &mut self,
+        marks: &mut u64,
+        window: &mut [u32],
+        window_marks: &mut [u8],
+        base: u32,
+        list: &[u32],
+        place: u32,
+    ) -> Result<(Ran, Result<Chain, TurnedAway>), InvalidArgument> {
+        let mut answer = [0; ORIGIN_ANSWER_WORDS];
+        let mut pairs = vec![0; 2 * PAIRS_PER_WORD * list.len().min(LIST_MOST_WORDS)];
+        let kind = raw::origin(&mut self.state, marks, window, window_marks, base, self.thumb as u32, list, place, &mut pairs, &mut answer);
+        let [count, at, address, word, known, refusal, first, links] = answer;
+        let ran = ran(kind, [count, at, address, word, known])?;
+        let chain = match (ran.stop, refusal) {
+            (Stop::Refused(n), _) => Err(TurnedAway(n)),
+            (_, 0) => Ok(Chain { first, links: pairs.chunks(2).take(links as usize).map(|pair| (pair[0], pair[1])).collect() }),
+            (_, refusal) => Err(TurnedAway((refusal - 100) as u8)),
+        };
+        Ok((ran, chain))
     }
 
     /// whether an instruction of this condition, in its low four bits, is executed.
@@ -415,7 +506,7 @@ pub struct Routine {
     pub left: u32,
 }
 
-/// Why routines are turned away: refusal 14, 15 or 16.
+/// The refusal that turns something away: routines 14, 15 or 16, an origin 1 to 7, 11 or 12.
 #[derive(Clone, Copy, PartialEq, Eq, Debug)]
 pub struct TurnedAway(pub u8);
 

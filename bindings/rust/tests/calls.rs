@@ -2,7 +2,7 @@
 
 use fpu::exception::{DIVISION_BY_ZERO, INEXACT, INVALID, OVERFLOW};
 use fpu::{
-    grant, operation, raw, replay, Exit, InvalidArgument, Machine, Operation, Ran, Routine, Stop, TurnedAway, MARKS_ALL, OPERATIONS, SHEET_BYTES,
+    grant, operation, raw, replay, Chain, Exit, InvalidArgument, Machine, Operation, Ran, Routine, Stop, TurnedAway, MARKS_ALL, OPERATIONS, SHEET_BYTES,
 };
 
 #[test]
@@ -164,6 +164,56 @@ fn a_watched_run() {
     assert_eq!(m.watch(&mut marks, &mut [5], &mut [], 0, &LIST), Ok(Ran { stop: Stop::Refused(6), count: 0, known: 49 }));
     assert_eq!(m.watch(&mut marks, &mut [5], &mut [2], 0, &LIST), Ok(Ran { stop: Stop::Refused(7), count: 0, known: 49 }));
     assert_eq!((m, marks), (before, kept));
+}
+
+#[test]
+fn origins() {
+    // a run with s0 unknown: the run is that of watch, whatever is asked for
+    let asked = |list: &[u32], place| {
+        let (mut m, mut marks) = (Machine::new(), MARKS_ALL - 1);
+        let (mut window, mut window_marks) = ([0; 2], [1; 2]);
+        let mut watched = (m, marks);
+        let ran = watched.0.watch(&mut watched.1, &mut window, &mut window_marks, 0x8000, list).unwrap();
+        let (same, chain) = m.origin(&mut marks, &mut [0; 2], &mut [1; 2], 0x8000, list, place).unwrap();
+        assert_eq!((m, marks, same), (watched.0, watched.1, ran));
+        (ran.stop, chain)
+    };
+    let chain = |first, links: &[(u32, u32)]| Ok(Chain { first, links: links.to_vec() });
+    assert_eq!(asked(&LIST, 51), (Stop::Hangs(51), chain(0, &[(0, 0), (1, 48), (2, 51)])));
+    assert_eq!(asked(&LIST, 0), (Stop::Hangs(51), chain(0, &[(0, 0)])));
+    assert_eq!(asked(&LIST, 1), (Stop::Hangs(51), Err(TurnedAway(12))));
+    assert_eq!(asked(&LIST, 54), (Stop::Hangs(51), Err(TurnedAway(12))));
+    assert_eq!(asked(&LIST, 55), (Stop::Hangs(51), Err(TurnedAway(11))));
+    // s0 doubled, and s2 = s1 + s1: both write place 52
+    assert_eq!(asked(&[0xEE30_0A00, 0xEE30_1AA0], 52), (Stop::Finished, chain(0, &[(0, 52), (1, 52)])));
+    assert_eq!(asked(&[0xEE30_1AA0], 0), (Stop::Finished, chain(0, &[])));
+    assert_eq!(asked(&[], 0), (Stop::Finished, chain(0, &[])));
+    // from s0 to s0 through 4,096 words
+    let links: Vec<(u32, u32)> = (0..4096).map(|i| (i, 0)).collect();
+    assert_eq!(asked(&[0xEE30_0A00; 4096], 0), (Stop::Finished, chain(0, &links)));
+    assert_eq!(asked(&[0xEE30_0A00; 4097], 0), (Stop::Refused(1), Err(TurnedAway(1))));
+}
+
+#[test]
+fn the_pairs_of_an_origin() {
+    // 16 words are enough for a word that was run; 255 comes first, and nothing is then touched
+    for (words, result, refusal, filled) in [(16, 0, 0, 1), (18, 0, 0, 1), (14, 0, 113, 0), (0, 0, 113, 0), (15, 255, 9, 0), (17, 255, 9, 0)] {
+        let (mut state, mut marks) = (Machine::new().state, MARKS_ALL - 1);
+        let (mut pairs, mut answer) = ([7; 18], [9; 8]);
+        let got = raw::origin(&mut state, &mut marks, &mut [], &mut [], 0, 0, &[0xEEB0_1A40], 2, &mut pairs[..words], &mut answer);
+        assert_eq!((got, answer[5]), (result, refusal));
+        assert_eq!(pairs[..2], if filled == 1 { [0, 2] } else { [7, 7] });
+        assert_eq!(pairs[2..], [7; 16]);
+        match result {
+            255 => assert_eq!((state, marks, answer), (Machine::new().state, MARKS_ALL - 1, [9; 8])),
+            _ => assert_eq!((state[47], marks, answer[6..].to_vec()), (4, MARKS_ALL - 1 - 4, vec![0, filled])),
+        }
+    }
+    let (mut state, mut marks, mut answer) = (Machine::new().state, MARKS_ALL, [9; 9]);
+    for words in [5, 7, 9] {
+        assert_eq!(raw::origin(&mut state, &mut marks, &mut [], &mut [], 0, 0, &LIST, 0, &mut [], &mut answer[..words]), 255);
+    }
+    assert_eq!((state, marks, answer), (Machine::new().state, MARKS_ALL, [9; 9]));
 }
 
 #[test]

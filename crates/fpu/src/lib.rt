@@ -2,6 +2,7 @@
 // of a function that has the same contract.
 pub mod grant;
 pub mod operation;
+pub mod place_origin;
 pub mod recorded;
 pub mod register_sheet;
 

@@ -1,6 +1,6 @@
-// Runs a list of instruction words under the watch, and tells where the run stops, what it hangs on and what is known then; with --sheet it
-// also prints the register sheet as it is then; with --list it lists the words with their addresses in the manual's spelling instead; with --write it
-// makes a record of the text, and with --record it replays one and tells the same.
+// Runs a list of instruction words under the watch, and tells where the run stops, what it hangs on, where that came from and what is known then; with
+// --sheet it also prints the register sheet as it is then, and with --origin where a place came from; with --list it lists the words with their addresses
+// in the manual's spelling instead; with --write it makes a record of the text, and with --record it replays one and tells the same.
 //
 // It reads the file that an argument names, or standard input. A text has one item a line:
 //
@@ -19,6 +19,7 @@ ghost use mathlib.Core.Path.{_≡_};
 ghost use lib.ListN.{length};
 
 mod arguments;
+mod chain;
 mod input;
 mod mistakes;
 mod outcome;
@@ -27,11 +28,14 @@ mod record;
 mod words;
 
 use arguments::Mode;
+use arguments::is_record;
 use arguments::mode_of;
 use input::Input;
 use libc::STDIN_FILENO;
 use libc::STDOUT_FILENO;
 use machine::place::WINDOW;
+use numerals::number::Number;
+use place_names::place::place_of;
 use script::item::Layout;
 use script::text::Taken;
 
@@ -72,19 +76,9 @@ fn carry_out(
     list: [u32; 4096],
 ) {
     match mode {
-        Mode::Run => run_list(layout, state, marks, window, window_marks, list, Mode::Run),
-        Mode::Sheet => run_list(
-            layout,
-            state,
-            marks,
-            window,
-            window_marks,
-            list,
-            Mode::Sheet,
-        ),
         Mode::List => list_words(layout, state, marks, list),
         Mode::Write => write_record(layout, state, marks, window, window_marks, list),
-        Mode::Record => {} // has no text
+        _ => run_list(layout, state, marks, window, window_marks, list, mode),
     }
 }
 
@@ -177,9 +171,11 @@ fn run_parts(
     let mut answer = [0u32; 5];
     let kind = fpu::fpu_watch(s, m, w, v, base, 0, list, &mut answer);
     let after = *m;
-    outcome::report(
+    outcome::tell(
+        mode,
         kind,
         answer,
+        base,
         list,
         state,
         marks,
@@ -190,15 +186,12 @@ fn run_parts(
         w,
         v,
     );
-    if let Mode::Sheet = mode {
-        outcome::sheet(s, after);
-    }
 }
 
 // A record is replayed; all else is a text.
 fn take_bytes(mode: Mode, bytes: &[u8]) {
-    if let Mode::Record = mode {
-        record::replay(bytes);
+    if is_record(mode) {
+        record::replay(mode, bytes);
         return;
     }
     take_text(mode, bytes);
@@ -206,7 +199,7 @@ fn take_bytes(mode: Mode, bytes: &[u8]) {
 
 // More bytes than there is room for.
 fn too_long(mode: Mode, bytes: &[u8]) {
-    if let Mode::Record = mode {
+    if is_record(mode) {
         record::too_long();
         return;
     }
@@ -269,7 +262,7 @@ fn take_argument(mode: Mode, argument: usize) {
 fn usage() {
     io::write_all(
         STDOUT_FILENO,
-        b"usage: fpurun [--list | --sheet | --record] [FILE], or fpurun --write FILE OUT\n",
+        b"usage: fpurun [--list | --sheet | [--origin PLACE] [--record]] [FILE], or fpurun --write FILE OUT\n",
     );
 }
 
@@ -282,16 +275,43 @@ fn take_both() {
     take_file(Mode::Write, 2);
 }
 
+// The chain of a place, in the run of a text or of a record.
+fn take_origin_of(p: u32) {
+    let mut word = io::buffer();
+    let n = os::arg(3, &mut word);
+    if check::same(&word[..n], b"--record") {
+        take_argument(Mode::RecordOrigin(p), 4);
+        return;
+    }
+    take_argument(Mode::Origin(p), 3);
+}
+
+// The second argument names the place.
+fn take_origin() {
+    if os::arg_count() < 3 {
+        usage();
+        return;
+    }
+    let mut word = io::buffer();
+    let n = os::arg(2, &mut word);
+    match place_of(&word[..n]) {
+        Number::Value(p) => take_origin_of(p),
+        Number::Wrong => mistakes::no_place(),
+    }
+}
+
 // A first argument that names a mode stands before the file.
 fn main() {
     let mut word = io::buffer();
     let n = os::arg(1, &mut word);
+    if check::same(&word[..n], b"--origin") {
+        take_origin();
+        return;
+    }
     let mode = mode_of(&word[..n]);
     match mode {
-        Mode::Run => take_argument(Mode::Run, 1),
-        Mode::Sheet => take_argument(Mode::Sheet, 2),
-        Mode::List => take_argument(Mode::List, 2),
-        Mode::Record => take_argument(Mode::Record, 2),
+        Mode::Run => take_argument(mode, 1),
         Mode::Write => take_both(),
+        _ => take_argument(mode, 2),
     }
 }

@@ -35,10 +35,7 @@ fn print_item(line: usize, e: Expected) {
             line,
             b"an instruction word of eight hexadecimal digits, set, unknown or window",
         ),
-        Expected::Place => expected(
-            line,
-            b"a place: s0 to s31, r0 to r15, flags, control, fpexc, nzcv, exceptions, w0 on, or its number",
-        ),
+        Expected::Place => print_place(line),
         Expected::Value => expected(line, b"a value of 1 to 8 hexadecimal digits"),
         Expected::Flags => expected(line, b"a value of four bits, 0 to F"),
         Expected::Control => expected(
@@ -50,6 +47,24 @@ fn print_item(line: usize, e: Expected) {
         Expected::Count => expected(line, b"a count of words in decimal"),
         Expected::End => expected(line, b"the line's end"),
     }
+}
+
+fn a_place() {
+    io::write_all(
+        STDOUT_FILENO,
+        b"a place: s0 to s31, r0 to r15, flags, control, fpexc, nzcv, exceptions, w0 on, or its number\n",
+    );
+}
+
+fn print_place(line: usize) {
+    print(begun(line));
+    a_place();
+}
+
+// An argument that names no place.
+pub fn no_place() {
+    io::write_all(STDOUT_FILENO, b"expected ");
+    a_place();
 }
 
 fn print_beyond(line: usize, words: usize) {

@@ -1,5 +1,6 @@
 // A record is replayed and told as the run of a text is; and what a text says is written as a record.
 ghost use Prim.Native.Nat.{_≤_};
+use super::arguments::Mode;
 use super::outcome;
 use super::output::low;
 use super::output::print;
@@ -7,6 +8,7 @@ use libc::STDOUT_FILENO;
 use machine::place::WINDOW;
 use record_numbers::count::list_count;
 use record_numbers::fill;
+use record_numbers::nth;
 use record_numbers::number_at;
 use record_refusal::field;
 use report::line;
@@ -36,15 +38,20 @@ fn window_words(bytes: &[u8]) -> usize
     words - WINDOW
 }
 
-pub fn replay(bytes: &[u8]) {
+pub fn replay(mode: Mode, bytes: &[u8]) {
     let words = window_words(bytes);
     let mut window = [0u32; MOST];
     let mut window_marks = [0u8; MOST];
-    replay_in(bytes, &mut window[..words], &mut window_marks[..words]);
+    replay_in(
+        mode,
+        bytes,
+        &mut window[..words],
+        &mut window_marks[..words],
+    );
 }
 
 // With a window and marks as long as the record calls for.
-fn replay_in(bytes: &[u8], w: &mut [u32], v: &mut [u8]) {
+fn replay_in(mode: Mode, bytes: &[u8], w: &mut [u32], v: &mut [u8]) {
     let mut s = [0u32; WINDOW];
     let mut m: u64 = 0;
     let mut answer = [0u32; 5];
@@ -53,11 +60,20 @@ fn replay_in(bytes: &[u8], w: &mut [u32], v: &mut [u8]) {
         refused(kind);
         return;
     }
-    tell(kind, answer, bytes, &s, m, w, v);
+    tell(mode, kind, answer, bytes, &s, m, w, v);
 }
 
 // Tells what came of the run beside what the record holds.
-fn tell(kind: u32, answer: [u32; 5], bytes: &[u8], s: &[u32], m: u64, w: &[u32], v: &[u8]) {
+fn tell(
+    mode: Mode,
+    kind: u32,
+    answer: [u32; 5],
+    bytes: &[u8],
+    s: &[u32],
+    m: u64,
+    w: &[u32],
+    v: &[u8],
+) {
     let words = w.len();
     if MOST < words {
         return;
@@ -74,6 +90,7 @@ fn tell(kind: u32, answer: [u32; 5], bytes: &[u8], s: &[u32], m: u64, w: &[u32],
     let mut window_marks = [0u8; MOST];
     let mut list = [0u32; 4096];
     tell_parts(
+        mode,
         kind,
         answer,
         bytes,
@@ -90,6 +107,7 @@ fn tell(kind: u32, answer: [u32; 5], bytes: &[u8], s: &[u32], m: u64, w: &[u32],
 
 // The words and marks of a state and a window, and a list, are filled with what the record holds. One that was not refused passes the tests.
 fn tell_parts(
+    mode: Mode,
     kind: u32,
     answer: [u32; 5],
     bytes: &[u8],
@@ -129,9 +147,12 @@ fn tell_parts(
     fill(bytes, field::WINDOW_VALUES, window);
     record_marks::fill(bytes, field::WINDOW_MARKS + words, window_marks);
     fill(bytes, field::LIST + 2 * words, list);
-    outcome::report(
+    let base = nth(bytes, field::BASE + 2 * words);
+    outcome::tell(
+        mode,
         kind,
         answer,
+        base,
         list,
         state,
         known,

@@ -4,4 +4,4 @@ mod Replies
 mod Places
 pub mod Demanded
 pub mod More
-mod Promised
+pub mod Promised

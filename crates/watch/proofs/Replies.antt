@@ -3,8 +3,8 @@ use Prim.Native.Nat.{ℕ, _+_, _%_, _^_, _<_}
 use native.Mathlib.Omega.{arith}
 use native.Mathlib.Nat.{mod-mod, mod-lt}
 use lib.Pow.{pow-pos}
-use mathlib.Core.Path.{_≡_, refl, ap}
-use mathlib.Core.Bool.{false}
+use mathlib.Core.Path.{_≡_, refl, ap, subst, _∙_}
+use mathlib.Core.Bool.{Bool, false}
 use mathlib.Core.List.{List}
 use lib.ListN.{length}
 use Rattle.machine.specs.declared.Machine.{Machine}
@@ -12,7 +12,6 @@ use Rattle.machine.specs.declared.Controls.{Controls}
 use Rattle.machine.specs.Machine.{assembled, controlsOf}
 use Rattle.machine.specs.Place.{state, before}
 use Rattle.meaning.specs.Map.{Map}
-use Rattle.meaning.specs.Tree.{Tree}
 use Rattle.limits.specs.Marks.{onesOf}
 use Rattle.limits.proofs.Ones.{ones-le}
 use Rattle.place_marks.specs.Word.{marksOf, mapIn}
@@ -22,6 +21,8 @@ use Rattle.place_marks.proofs.Word.{same-map}
 use Rattle.run_word.specs.declared.Stop.{Stop}
 use Rattle.run_word.specs.Stop.{stopOf}
 use Rattle.run.proofs.Replies.{whole}
+use Rattle.run_log.specs.Log.{Logged}
+use Rattle.word_class.specs.Word.{meaning}
 use Rattle.watch.specs.declared.Watched.{Watched}
 use Rattle.watch.specs.Watch.{answered, reply}
 use Rattle.meaning.specs.Run as R
@@ -41,8 +42,17 @@ answered-as a stop count m k n v w e p h q = (
 pub few : (w : List ℕ) (n : ℕ) → n ≡ onesOf w → length w < 2 ^ 63 → n < 2 ^ 63
 few w n e h = omega (arith, e, ones-le w)
 
--- the run begins with the machine in its parts
-pub begun : (M : ℕ → Tree) (list : List ℕ) (m : Machine) (μ : Map) (v s r : List ℕ) (x : Controls)
-    → m .thumb ≡ false → s ≡ m .s → r ≡ m .r → x ≡ controlsOf m
-    → R.watch M list 0 (state (assembled s r x false) v) μ ≡ R.watch M list 0 (state m v) μ
-begun M list m μ v s r x t p q e = rw (p, q, e, whole m t)
+-- ---- the run's answer, from a machine in its parts
+
+module _ (base : ℕ) (list : List ℕ) (μ : Map) (m : Machine) (v₀ s r : List ℕ) (x : Controls) (t : m .thumb ≡ false) (p : s ≡ m .s) (q : r ≡ m .r) (e : x ≡ controlsOf m) where
+  parts : assembled s r x false ≡ m
+  parts = rw (p, q, e) (whole m t)
+
+  pub ends-as : (a : Watched) (stop : Stop) (count : ℕ) (m′ : Machine) (k n : ℕ) (v w ms vs : List ℕ) (ss : List Bool)
+      → (a .stop ≡ stop) × (a .count ≡ count) × (a .machine ≡ m′) × (a .marks ≡ k % 2 ^ before) × (a .known ≡ knownBefore (marksOf k) + n)
+      → n ≡ onesOf w
+      → (R.endedWith (state m′ v) (mapIn k w) count (stopOf stop) ≡ R.watch (meaning base) list 0 (state (assembled s r x false) v₀) μ) × Logged base list (state (assembled s r x false) v₀) μ count ms vs ss
+      → (answered a v w ≡ reply (R.watch (meaning base) list 0 (state m v₀) μ)) × (a .marks < 2 ^ before) × (a .known ≡ knownPlaces (mapIn (a .marks) w)) × Logged base list (state m v₀) μ (a .count) ms vs ss
+  ends-as a stop count m′ k n v w ms vs ss d o g =
+      let z = answered-as a stop count m′ k n v w _ d o (g .0 ∙ ap (λ (b : Machine). R.watch (meaning base) list 0 (state b v₀) μ) parts) in
+      (z .0, z .1, z .2, rw (d .1) (subst (λ (b : Machine). Logged base list (state b v₀) μ count ms vs ss) parts (g .1)))

@@ -2,6 +2,7 @@
 ghost use mathlib.Core.Path.{_≡_};
 ghost use mathlib.Core.Bool.{false};
 ghost use Prim.Native.Nat.{_+_, _%_, _^_, _<_};
+ghost use lib.ListN.{length};
 ghost use Rattle.machine.specs.Place.{state, before};
 ghost use Rattle.machine.specs.Machine.{assembled};
 ghost use Rattle.meaning.specs.Run as R;
@@ -10,6 +11,7 @@ ghost use Rattle.limits.specs.Marks.{onesOf};
 ghost use Rattle.place_marks.specs.Word.{marksOf, mapIn};
 ghost use Rattle.known_places.specs.Count.{knownBefore, knownPlaces};
 ghost use Rattle.word_class.specs.Word.{meaning};
+ghost use Rattle.run_log.specs.Log.{Logged};
 ghost use Rattle.watch.specs.Watch.{answered, reply};
 ghost use Rattle.watch.specs.Promise.{Promise, WordPromise};
 use decoding::table::operations;
@@ -18,6 +20,7 @@ use limits::limit::watch_limit;
 use limits::marks::count_ones;
 use machine::Machine;
 use progress::Progress;
+use run_log::log_word;
 use run_word::Next;
 use run_word::Stop;
 use run_word::word::advance;
@@ -56,6 +59,9 @@ pub fn watch(
         };
     }
     let table = operations();
+    let mut log_marks = [0u64; 1];
+    let mut log_values = [0u32; 1];
+    let mut log_skips = [false; 1];
     watch_words(
         &table,
         machine,
@@ -65,12 +71,15 @@ pub fn watch(
         limit.ones,
         base,
         list,
+        &mut log_marks[..0],
+        &mut log_values[..0],
+        &mut log_skips[..0],
     )
 }
 
-// The watched run within the limits. The decode table, the registers as locals and the number of ones among the window's marks are lent to each word; the
-// marks go by value.
-fn watch_words(
+// The watched run within the limits, with a log. The decode table, the registers as locals and the number of ones among the window's marks are lent to each word;
+// the marks go by value. One loop serves runs with a log and without: a word's function is compiled into it only while it has a single caller.
+pub fn watch_words(
     table: &[u8; 1024],
     machine: Machine,
     marks: u64,
@@ -79,9 +88,12 @@ fn watch_words(
     ones: usize,
     base: u32,
     list: &[u32],
+    log_marks: &mut [u64],
+    log_values: &mut [u32],
+    log_skips: &mut [bool],
 ) -> Watched
-    requires { ⌜ (machine .thumb ≡ false) × (now table ≡ operationTable) × (ones ≡ onesOf (now «window_marks»)) ⌝ }
-    ensures { λ a. ⌜ (answered a (now (window .exit)) (now («window_marks» .exit)) ≡ reply (R.watch (meaning base) (now (list .entry)) 0 (state machine (now (window .entry))) (mapIn marks (now («window_marks» .entry))))) × (a .marks < 2 ^ before) × (a .known ≡ knownPlaces (mapIn (a .marks) (now («window_marks» .exit)))) ⌝ }
+    requires { ⌜ (machine .thumb ≡ false) × (now table ≡ operationTable) × (ones ≡ onesOf (now «window_marks»)) × (length (now «log_values») ≡ length (now «log_marks»)) × (length (now «log_skips») ≡ length (now «log_marks»)) ⌝ }
+    ensures { λ a. ⌜ (answered a (now (window .exit)) (now («window_marks» .exit)) ≡ reply (R.watch (meaning base) (now (list .entry)) 0 (state machine (now (window .entry))) (mapIn marks (now («window_marks» .entry))))) × (a .marks < 2 ^ before) × (a .known ≡ knownPlaces (mapIn (a .marks) (now («window_marks» .exit)))) × Logged base (now (list .entry)) (state machine (now (window .entry))) (mapIn marks (now («window_marks» .entry))) (a .count) (now («log_marks» .exit)) (now («log_values» .exit)) (now («log_skips» .exit)) ⌝ }
 {
     let begun = Progress::new(machine);
     let mut s = begun.s;
@@ -92,6 +104,7 @@ fn watch_words(
     let mut i: usize = 0;
     while i < list.len() {
         let op = list[i];
+        log_word(&r, x, known, op, i, log_marks, log_values, log_skips);
         let done = watch_word(
             table,
             &mut s,

@@ -1,0 +1,3 @@
+-- Laws of the crate's proofs.
+mod Reported
+mod Called

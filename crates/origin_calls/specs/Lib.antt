@@ -1,0 +1,3 @@
+-- What the exported call leaves and promises.
+pub mod Outcome
+pub mod Promise

@@ -1,0 +1,2 @@
+-- The laws of a watched run with its log.
+pub mod Logging
