@@ -1,8 +1,10 @@
-/* The floating point unit: libfpu.a, built by `rt staticlib fpu` for x86-64 Linux. It needs memcpy and memset of the C library.
+/* The floating point unit: libfpu.a, built by `rt staticlib fpu` for x86-64 Linux. It needs memcpy and memset of the C library. This header is C99, and C++.
  *
  * The caller's duties: each pointer is valid for as many elements as its length says, aligned for its type, and not null (for a
- * length of 0 too: any aligned address will do); lent buffers do not overlap, and nothing else reads or writes them during a
- * call. A length is any number: those that have to be one of the constants below are tested.
+ * length of 0 too: any aligned address will do); a lent buffer overlaps no other, and nothing else reads or writes it during a
+ * call, but that buffers lent as const may overlap each other and be read elsewhere. A length is any number: those that have to
+ * be one of the constants below are tested. The processor's MXCSR is as a program starts with: rounding to nearest, no subnormals
+ * flushed, exceptions masked (a link with -ffast-math changes it).
  */
 #ifndef FPU_H
 #define FPU_H
@@ -13,6 +15,11 @@
 #ifdef __cplusplus
 extern "C" {
 #endif
+
+/* The version of this header. The major number changes where a caller has to change: another call, layout or number than before. The minor number changes
+ * where something is added. The archive carries no version: it and its header are of one revision. */
+#define FPU_VERSION_MAJOR 1
+#define FPU_VERSION_MINOR 0
 
 /* Lengths, in words. */
 #define FPU_STATE_WORDS 53

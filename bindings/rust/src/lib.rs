@@ -1,6 +1,8 @@
-//! The floating point unit, safely: libfpu.a behind references, which are valid and do not overlap.
+//! The floating point unit, safely: libfpu.a behind references, which are valid and do not overlap. It needs core alone: no std, and no heap.
+#![no_std]
 
-use std::os::raw::c_uint;
+/// the version of include/fpu.h and of this wrapper, with a last part of 0: "1.0.0" for 1.0.
+pub const VERSION: &str = env!("CARGO_PKG_VERSION");
 
 pub const STATE_WORDS: usize = 53;
 /// the marks of a machine of which every place is known: bit p is that of place p.
@@ -12,6 +14,10 @@ pub const ORIGIN_ANSWER_WORDS: usize = 8;
 pub const PAIRS_PER_WORD: usize = 8;
 /// the most words of a list.
 pub const LIST_MOST_WORDS: usize = 4096;
+/// the most words of a window.
+pub const WINDOW_MOST_WORDS: usize = 16384;
+/// the most routines that `grant` takes.
+pub const MOST_ROUTINES: usize = 8;
 /// the bytes of a register sheet: 16 lines of 40 characters and a line feed.
 pub const SHEET_BYTES: usize = 656;
 
@@ -25,9 +31,9 @@ pub mod exception {
 }
 
 extern "C" {
-    fn fpu_new(state: *mut u32, state_words: usize) -> c_uint;
-    fn fpu_data_processing(state: *mut u32, state_words: usize, thumb: u32, word: u32, answer: *mut u32, answer_words: usize) -> c_uint;
-    fn fpu_coprocessor_register(state: *mut u32, state_words: usize, thumb: u32, word: u32, answer: *mut u32, answer_words: usize) -> c_uint;
+    fn fpu_new(state: *mut u32, state_words: usize) -> u32;
+    fn fpu_data_processing(state: *mut u32, state_words: usize, thumb: u32, word: u32, answer: *mut u32, answer_words: usize) -> u32;
+    fn fpu_coprocessor_register(state: *mut u32, state_words: usize, thumb: u32, word: u32, answer: *mut u32, answer_words: usize) -> u32;
     fn fpu_coprocessor_load_store(
         state: *mut u32,
         state_words: usize,
@@ -38,7 +44,7 @@ extern "C" {
         word: u32,
         answer: *mut u32,
         answer_words: usize,
-    ) -> c_uint;
+    ) -> u32;
     fn fpu_run(
         state: *mut u32,
         state_words: usize,
@@ -50,7 +56,7 @@ extern "C" {
         list_words: usize,
         answer: *mut u32,
         answer_words: usize,
-    ) -> c_uint;
+    ) -> u32;
     fn fpu_watch(
         state: *mut u32,
         state_words: usize,
@@ -65,7 +71,7 @@ extern "C" {
         list_words: usize,
         answer: *mut u32,
         answer_words: usize,
-    ) -> c_uint;
+    ) -> u32;
     fn fpu_origin(
         state: *mut u32,
         state_words: usize,
@@ -83,7 +89,7 @@ extern "C" {
         pairs_words: usize,
         answer: *mut u32,
         answer_words: usize,
-    ) -> c_uint;
+    ) -> u32;
     fn fpu_replay(
         record: *const u8,
         record_bytes: usize,
@@ -96,10 +102,10 @@ extern "C" {
         window_marks_bytes: usize,
         answer: *mut u32,
         answer_words: usize,
-    ) -> c_uint;
-    fn fpu_check_condition(condition: u32, nzcv: u32) -> c_uint;
-    fn fpu_operation(word: u32) -> c_uint;
-    fn fpu_sheet(state: *const u32, state_words: usize, marks: u64, page: *mut u8, page_bytes: usize) -> c_uint;
+    ) -> u32;
+    fn fpu_check_condition(condition: u32, nzcv: u32) -> u32;
+    fn fpu_operation(word: u32) -> u32;
+    fn fpu_sheet(state: *const u32, state_words: usize, marks: u64, page: *mut u8, page_bytes: usize) -> u32;
     fn fpu_grant(
         period: u32,
         shares: *const u32,
@@ -110,7 +116,7 @@ extern "C" {
         left_words: usize,
         grants: *mut u32,
         grants_words: usize,
-    ) -> c_uint;
+    ) -> u32;
 }
 
 /// The functions as C has them, over slices of any length: the result, as include/fpu.h numbers it.
@@ -308,16 +314,16 @@ pub struct Ran {
     pub known: u32,
 }
 
-/// A state with a bit outside a place's own, or a mark that is neither 0 nor 1: nothing was done.
+/// A state with a bit outside a place's own: nothing was done.
 #[derive(Clone, Copy, PartialEq, Eq, Debug)]
 pub struct InvalidArgument;
 
 /// Where an unknown place came from: a place that is unknown at the start, and the links to the place asked for, each the index of a word in the list,
 /// from 0, and the place that a step of it made unknown.
-#[derive(Clone, PartialEq, Eq, Debug)]
-pub struct Chain {
+#[derive(Clone, Copy, PartialEq, Eq, Debug)]
+pub struct Chain<'a> {
     pub first: u32,
-    pub links: Vec<(u32, u32)>,
+    pub links: &'a [[u32; 2]],
 }
 
 /// A machine: the 53 words of its state, and its Thumb bit.
@@ -400,9 +406,11 @@ impl Machine {
         ran(raw::watch(&mut self.state, marks, window, window_marks, base, self.thumb as u32, list, &mut answer), answer)
     }
 
-    /// the watched run, and where a place came from that is unknown after it; word i of the window is place 53 + i. Turned away: the run's refusal, which
-    /// is its stop too, or 11 where the place is beyond the map, or 12 where it is known after the run.
-    pub fn origin(
+    /// the watched run, and where a place came from that is unknown after it; word i of the window is place 53 + i. The links go to the front of `pairs`, and
+    /// `PAIRS_PER_WORD` for each word of the list are always enough. Turned away: the run's refusal, which is its stop too, or 11 where the place is beyond
+    /// the map, 12 where it is known after the run, or 13 where `pairs` has fewer than `PAIRS_PER_WORD` for each word that was run.
+    #[allow(clippy::too_many_arguments)]
+    pub fn origin<'a>(
         &mut self,
         marks: &mut u64,
         window: &mut [u32],
@@ -410,15 +418,16 @@ impl Machine {
         base: u32,
         list: &[u32],
         place: u32,
-    ) -> Result<(Ran, Result<Chain, TurnedAway>), InvalidArgument> {
+        pairs: &'a mut [[u32; 2]],
+    ) -> Result<(Ran, Result<Chain<'a>, TurnedAway>), InvalidArgument> {
         let mut answer = [0; ORIGIN_ANSWER_WORDS];
-        let mut pairs = vec![0; 2 * PAIRS_PER_WORD * list.len().min(LIST_MOST_WORDS)];
-        let kind = raw::origin(&mut self.state, marks, window, window_marks, base, self.thumb as u32, list, place, &mut pairs, &mut answer);
+        let (thumb, laid) = (self.thumb as u32, pairs.as_flattened_mut());
+        let kind = raw::origin(&mut self.state, marks, window, window_marks, base, thumb, list, place, laid, &mut answer);
         let [count, at, address, word, known, refusal, first, links] = answer;
         let ran = ran(kind, [count, at, address, word, known])?;
         let chain = match (ran.stop, refusal) {
             (Stop::Refused(n), _) => Err(TurnedAway(n)),
-            (_, 0) => Ok(Chain { first, links: pairs.chunks(2).take(links as usize).map(|pair| (pair[0], pair[1])).collect() }),
+            (_, 0) => Ok(Chain { first, links: &pairs[..links as usize] }),
             (_, refusal) => Err(TurnedAway((refusal - 100) as u8)),
         };
         Ok((ran, chain))
@@ -506,16 +515,24 @@ pub struct Routine {
     pub left: u32,
 }
 
-/// The refusal that turns something away: routines 14, 15 or 16, an origin 1 to 7, 11 or 12.
+/// The refusal that turns something away: routines 14, 15 or 16, an origin 1 to 7, 11, 12 or 13.
 #[derive(Clone, Copy, PartialEq, Eq, Debug)]
 pub struct TurnedAway(pub u8);
 
-/// What each routine is granted of a period.
-pub fn grant(period: u32, routines: &[Routine]) -> Result<Vec<u32>, TurnedAway> {
-    let column = |field: fn(&Routine) -> u32| routines.iter().map(field).collect::<Vec<u32>>();
-    let mut grants = vec![0; routines.len()];
-    match raw::grant(period, &column(|r| r.share), &column(|r| r.limit), &column(|r| r.left), &mut grants) {
-        0 => Ok(grants),
+/// What each routine is granted of a period, in their order, and 0 after the last.
+pub fn grant(period: u32, routines: &[Routine]) -> Result<[u32; MOST_ROUTINES], TurnedAway> {
+    // room for one too many, so that the unit turns them away
+    const ROOM: usize = MOST_ROUTINES + 1;
+    let (mut shares, mut limits, mut left, mut grants) = ([0; ROOM], [0; ROOM], [0; ROOM], [0; ROOM]);
+    let n = routines.len().min(ROOM);
+    for (i, routine) in routines[..n].iter().enumerate() {
+        (shares[i], limits[i], left[i]) = (routine.share, routine.limit, routine.left);
+    }
+    match raw::grant(period, &shares[..n], &limits[..n], &left[..n], &mut grants[..n]) {
+        0 => {
+            let [granted @ .., _] = grants;
+            Ok(granted)
+        }
         refused => Err(TurnedAway((refused - 100) as u8)),
     }
 }

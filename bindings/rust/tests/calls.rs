@@ -2,7 +2,8 @@
 
 use fpu::exception::{DIVISION_BY_ZERO, INEXACT, INVALID, OVERFLOW};
 use fpu::{
-    grant, operation, raw, replay, Chain, Exit, InvalidArgument, Machine, Operation, Ran, Routine, Stop, TurnedAway, MARKS_ALL, OPERATIONS, SHEET_BYTES,
+    grant, operation, raw, replay, Chain, Exit, InvalidArgument, Machine, Operation, Ran, Routine, Stop, TurnedAway, LIST_MOST_WORDS, MARKS_ALL, OPERATIONS,
+    PAIRS_PER_WORD, SHEET_BYTES, WINDOW_MOST_WORDS,
 };
 
 #[test]
@@ -69,7 +70,7 @@ fn a_load_a_store_and_refusals() {
     let before = m;
     assert_eq!(m.coprocessor_load_store(&mut window, 0x8001, 0xED90_0A00), Ok(Exit::Refused(3)));
     assert_eq!(m.coprocessor_load_store(&mut window, 0xFFFF_FFF8, 0xED90_0A00), Ok(Exit::Refused(4)));
-    assert_eq!(m.coprocessor_load_store(&mut vec![0; 16385], 0x8001, 0xED90_0A00), Ok(Exit::Refused(2)));
+    assert_eq!(m.coprocessor_load_store(&mut vec![0; WINDOW_MOST_WORDS + 1], 0x8001, 0xED90_0A00), Ok(Exit::Refused(2)));
     assert_eq!(m.coprocessor_load_store(&mut [], 0x8000, 0xED90_0A00), Ok(Exit::Nothing));
     assert_eq!((m.state[0], before.state[0]), (0, 5));
 }
@@ -169,29 +170,38 @@ fn a_watched_run() {
 #[test]
 fn origins() {
     // a run with s0 unknown: the run is that of watch, whatever is asked for
-    let asked = |list: &[u32], place| {
+    let asked = |list: &[u32], place, lent| {
         let (mut m, mut marks) = (Machine::new(), MARKS_ALL - 1);
         let (mut window, mut window_marks) = ([0; 2], [1; 2]);
         let mut watched = (m, marks);
         let ran = watched.0.watch(&mut watched.1, &mut window, &mut window_marks, 0x8000, list).unwrap();
-        let (same, chain) = m.origin(&mut marks, &mut [0; 2], &mut [1; 2], 0x8000, list, place).unwrap();
+        let mut pairs = vec![[7; 2]; lent];
+        let (same, chain) = m.origin(&mut marks, &mut [0; 2], &mut [1; 2], 0x8000, list, place, &mut pairs).unwrap();
         assert_eq!((m, marks, same), (watched.0, watched.1, ran));
+        let chain = chain.map(|Chain { first, links }| (first, links.to_vec()));
+        // what is behind the links is as it came
+        let links = chain.as_ref().map_or(0, |(_, links)| links.len());
+        assert!(pairs[links..].iter().all(|&pair| pair == [7; 2]));
         (ran.stop, chain)
     };
-    let chain = |first, links: &[(u32, u32)]| Ok(Chain { first, links: links.to_vec() });
-    assert_eq!(asked(&LIST, 51), (Stop::Hangs(51), chain(0, &[(0, 0), (1, 48), (2, 51)])));
-    assert_eq!(asked(&LIST, 0), (Stop::Hangs(51), chain(0, &[(0, 0)])));
-    assert_eq!(asked(&LIST, 1), (Stop::Hangs(51), Err(TurnedAway(12))));
-    assert_eq!(asked(&LIST, 54), (Stop::Hangs(51), Err(TurnedAway(12))));
-    assert_eq!(asked(&LIST, 55), (Stop::Hangs(51), Err(TurnedAway(11))));
+    let chain = |first, links: &[[u32; 2]]| Ok((first, links.to_vec()));
+    assert_eq!(asked(&LIST, 51, 32), (Stop::Hangs(51), chain(0, &[[0, 0], [1, 48], [2, 51]])));
+    assert_eq!(asked(&LIST, 0, 32), (Stop::Hangs(51), chain(0, &[[0, 0]])));
+    assert_eq!(asked(&LIST, 1, 32), (Stop::Hangs(51), Err(TurnedAway(12))));
+    assert_eq!(asked(&LIST, 54, 32), (Stop::Hangs(51), Err(TurnedAway(12))));
+    assert_eq!(asked(&LIST, 55, 32), (Stop::Hangs(51), Err(TurnedAway(11))));
+    // three words were run
+    assert_eq!(asked(&LIST, 51, 24), (Stop::Hangs(51), chain(0, &[[0, 0], [1, 48], [2, 51]])));
+    assert_eq!(asked(&LIST, 51, 23), (Stop::Hangs(51), Err(TurnedAway(13))));
+    assert_eq!(asked(&LIST, 51, 0), (Stop::Hangs(51), Err(TurnedAway(13))));
     // s0 doubled, and s2 = s1 + s1: both write place 52
-    assert_eq!(asked(&[0xEE30_0A00, 0xEE30_1AA0], 52), (Stop::Finished, chain(0, &[(0, 52), (1, 52)])));
-    assert_eq!(asked(&[0xEE30_1AA0], 0), (Stop::Finished, chain(0, &[])));
-    assert_eq!(asked(&[], 0), (Stop::Finished, chain(0, &[])));
+    assert_eq!(asked(&[0xEE30_0A00, 0xEE30_1AA0], 52, 16), (Stop::Finished, chain(0, &[[0, 52], [1, 52]])));
+    assert_eq!(asked(&[0xEE30_1AA0], 0, 8), (Stop::Finished, chain(0, &[])));
+    assert_eq!(asked(&[], 0, 0), (Stop::Finished, chain(0, &[])));
     // from s0 to s0 through 4,096 words
-    let links: Vec<(u32, u32)> = (0..4096).map(|i| (i, 0)).collect();
-    assert_eq!(asked(&[0xEE30_0A00; 4096], 0), (Stop::Finished, chain(0, &links)));
-    assert_eq!(asked(&[0xEE30_0A00; 4097], 0), (Stop::Refused(1), Err(TurnedAway(1))));
+    let (most, links) = (PAIRS_PER_WORD * LIST_MOST_WORDS, (0..4096).map(|i| [i, 0]).collect::<Vec<_>>());
+    assert_eq!(asked(&[0xEE30_0A00; 4096], 0, most), (Stop::Finished, chain(0, &links)));
+    assert_eq!(asked(&[0xEE30_0A00; 4097], 0, most), (Stop::Refused(1), Err(TurnedAway(1))));
 }
 
 #[test]
@@ -259,16 +269,20 @@ fn pages_of_a_sheet() {
 #[test]
 fn grants() {
     let routine = |share, limit, left| Routine { share, limit, left };
-    assert_eq!(grant(3, &[routine(0, 3, 3); 2]), Ok(vec![2, 1]));
-    assert_eq!(grant(9, &[routine(1, 3, 2), routine(1, 2, 9)]), Ok(vec![2, 2]));
+    assert_eq!(grant(3, &[routine(0, 3, 3); 2]), Ok([2, 1, 0, 0, 0, 0, 0, 0]));
+    assert_eq!(grant(9, &[routine(1, 3, 2), routine(1, 2, 9)]), Ok([2, 2, 0, 0, 0, 0, 0, 0]));
     assert_eq!(grant(u32::MAX, &[routine(0, u32::MAX, u32::MAX); 8]).unwrap()[6..], [0x2000_0000, 0x1FFF_FFFF]);
-    assert_eq!(grant(3, &[]), Err(TurnedAway(14)));
-    assert_eq!(grant(3, &[routine(0, 0, 0); 9]), Err(TurnedAway(14)));
+    for n in [0, 9, 10, 1000] {
+        assert_eq!(grant(3, &vec![routine(0, 0, 0); n]), Err(TurnedAway(14)));
+    }
     assert_eq!(grant(3, &[routine(2, 1, 0)]), Err(TurnedAway(15)));
     assert_eq!(grant(1, &[routine(2, 2, 0)]), Err(TurnedAway(16)));
     let mut lent = [7; 2];
     assert_eq!((raw::grant(3, &[0; 2], &[3; 3], &[3; 2], &mut lent), lent), (255, [7; 2]));
     assert_eq!((raw::grant(1, &[2; 2], &[2; 2], &[0; 2], &mut lent), lent), (116, [0; 2]));
+    // lists that are only read may be one list
+    let one = [2, 3];
+    assert_eq!((raw::grant(9, &one, &one, &one, &mut lent), lent), (0, [2, 3]));
 }
 
 /// A record of a state, its marks, a window of which every word is known, a base and a list.
