@@ -1,4 +1,4 @@
-// How near the estimate of crates/roots/src/root.rt is, of which its contracts say nothing: the same steps in C, over every significand of a single
+// How near the estimate of crates/root_estimates/src/estimate.rt is, of which its contracts say nothing: the same steps in C, over every significand of a single
 // at both parities of the exponent, RANDOM doubles (20 million), as many next to powers of 4, and doubles next to squares.
 //     cc -O2 -o /tmp/root_estimate bench/root_estimate.c -lm && /tmp/root_estimate [RANDOM]
 // "to the digits": roots that the check sends on to the digit loop. "past 2": the root is more than q + 2.

@@ -5,7 +5,7 @@ use mathlib.Core.List.{_++_}
 use Prim.Native.Nat.{ℕ, zero, suc, _+_, _*_}
 use native.Mathlib.Omega.{arith}
 use lib.Ieee.{Format, binary32, binary64}
-use Rattle.machine.specs.Registers.{lowIndex}
+use Rattle.registers.specs.Registers.{lowIndex}
 use Rattle.meaning.specs.Map.{Map}
 use Rattle.meaning.specs.Step.{Step, stepMarks, afterMarks}
 use Rattle.meaning.proofs.Laws.{marks-one}

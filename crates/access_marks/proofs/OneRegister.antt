@@ -4,10 +4,10 @@ use mathlib.Core.Bool.{Bool, true}
 use Prim.Native.Nat.{ℕ, _+_, _%_, _^_}
 use lib.Ieee.{Format, binary32, binary64}
 use Rattle.bits.specs.Field.{field, bitOf}
-use Rattle.machine.specs.Registers.{lowIndex, regOf}
+use Rattle.registers.specs.Registers.{lowIndex, regOf}
 use Rattle.machine.specs.Place.{core, State, get}
 use Rattle.meaning.specs.Map.{Map}
-use Rattle.meaning.specs.Step.{Step, stepMarks, afterMarks}
+use Rattle.meaning.specs.Step.{Step, stepMarks}
 use Rattle.meaning.specs.Hang.{marked}
 use Rattle.meaning.proofs.Laws.{marks-none, marks-one}
 use Rattle.addresses.specs.Address.{oneOnly, startOf}

@@ -6,7 +6,7 @@ use Prim.Native.Nat.{ℕ}
 use lib.Ieee.{Format}
 use borrow.Author.Tests.{ne-eqb}
 use Rattle.bits.specs.Field.{field, bitOf}
-use Rattle.machine.specs.Registers.{regOf}
+use Rattle.registers.specs.Registers.{regOf}
 use Rattle.machine.specs.Place.{core, State, get}
 use Rattle.meaning.specs.Map.{Map}
 use Rattle.meaning.specs.Step.{stepMarks, afterMarks, grow}

@@ -4,23 +4,23 @@ ghost use lib.Ieee.{binary32};
 ghost use Rattle.bits.specs.Field.{field, bitOf};
 ghost use Rattle.machine.specs.declared.Machine.{Machine};
 ghost use Rattle.machine.specs.Machine.{withS};
-ghost use Rattle.machine.specs.Registers.{regOf};
+ghost use Rattle.registers.specs.Registers.{regOf};
 ghost use Rattle.machine.specs.Place.{state};
 ghost use Rattle.meaning.specs.Step.{step, stepMarks};
 ghost use Rattle.addresses.specs.Address.{formatOf};
 ghost use Rattle.memory.specs.LoadStore.{accessStep};
 ghost use Rattle.place_marks.specs.Word.{mapIn};
-ghost use Rattle.limits.specs.Marks.{onesOf};
+ghost use Rattle.window_marks.specs.Marks.{onesOf};
 use addresses::address::first_word;
 use bits::field::bit;
 use known_places::ones_after;
 use machine::address::plus;
-use machine::registers::Single;
 use memory::words::move_word;
-use place_marks::registers::mark_single;
-use place_marks::registers::single_known;
 use place_marks::window::mark_word;
 use place_marks::window::word_known;
+use register_marks::register::mark_single;
+use register_marks::register::single_known;
+use registers::registers::Single;
 
 pub(crate) fn watched_one(
     s: &mut [u32; 32],

@@ -1,12 +1,12 @@
 -- Loads, stores and pairs.
 use Prim.Native.Nat.{ℕ, _+_, _-_, _%_}
 use mathlib.Core.Bool.{cond}
-use mathlib.Core.List.{List, [], _++_}
+use mathlib.Core.List.{List, _++_}
 use lib.Dec.{eqb}
 use lib.Ieee.{Format, binary32, binary64}
 use Rattle.bits.specs.Field.{field, bitOf}
 use Rattle.numerals.specs.Number.{decimalText}
-use Rattle.decoding.specs.Fields.{regD, regM}
+use Rattle.register_fields.specs.Fields.{regD, regM}
 use Rattle.addresses.specs.Address.{offset, oneOnly, countOf}
 use Rattle.mnemonics.specs.Ascii.{ascii}
 use Rattle.mnemonics.specs.Parts.{namedText, preciseText, regText, coreText, comma}

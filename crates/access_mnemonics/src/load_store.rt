@@ -2,7 +2,7 @@
 ghost use mathlib.Core.Path.{_≡_};
 ghost use mathlib.Core.List.{_++_};
 ghost use Prim.Native.Nat.{_<_};
-ghost use Rattle.decoding.specs.Fields.{regD, regM};
+ghost use Rattle.register_fields.specs.Fields.{regD};
 ghost use Rattle.addresses.specs.Address.{formatOf};
 ghost use Rattle.text.specs.Text.{textOf, clip};
 ghost use mathlib.Core.Bool.{cond};
@@ -13,14 +13,14 @@ ghost use Rattle.access_mnemonics.specs.LoadStore.{coresText, pairOf, to
 use addresses::address::count_of;
 use bits::field::bit;
 use bits::field::bits;
-use decoding::fields::double_d;
-use decoding::fields::double_m;
-use decoding::fields::single_d;
-use decoding::fields::single_m;
 use mnemonics::parts::core;
 use mnemonics::parts::named;
 use mnemonics::parts::precise;
 use mnemonics::parts::register;
+use register_fields::fields::double_d;
+use register_fields::fields::double_m;
+use register_fields::fields::single_d;
+use register_fields::fields::single_m;
 use text::text::Text;
 
 // The two core registers of a pair.

@@ -95,14 +95,6 @@ word-beyond : (base a u : ℕ) → wordAt base ((a + 4 * u) % 2 ^ 32) ≡ (wordA
 unfolding wordAt
 word-beyond base a u = omega arith
 
--- the write-back writes a core register, which is known
-tail-apart : (op : ℕ) (p : Place) → ((n : ℕ) → same (core n) p ≡ false) → writes (writeBack op) p ≡ false
-tail-apart op p h = by (bitOf op 21)
-  where
-    by : (b : Bool) → writes (cond b (grow (core (field op 16 19)) (cond (bitOf op 23) (offset op) (2 ^ 32 - offset op)) ∷ []) []) p ≡ false
-    by true = rw (h (field op 16 19)) refl
-    by false = refl
-
 tail-marks : (op : ℕ) (μ : Map) → stepMarks (writeBack op) μ ≡ μ
 tail-marks op μ = by (bitOf op 21)
   where

@@ -5,7 +5,7 @@ use mathlib.Core.Bool.{true, false}
 use mathlib.Core.List.{[], _∷_}
 use Rattle.bits.specs.Field.{field, bitOf}
 use lib.Ieee.{binary32, binary64}
-use Rattle.machine.specs.Registers.{sregOf, dregOf, lowIndex, highIndex}
+use Rattle.registers.specs.Registers.{sregOf, dregOf, lowIndex, highIndex}
 use Rattle.machine.specs.Place.{single, place, number, sWord}
 use Rattle.machine.proofs.Numbers.{number-place}
 use Rattle.meaning.specs.Step.{Step, copy}

@@ -8,7 +8,7 @@ use lib.Ieee.{Format, binary32, binary64}
 use borrow.Author.Tests.{eq-eqb, ne-eqb}
 use Rattle.bits.specs.Field.{field, bitOf}
 use Rattle.machine.specs.Place.{Place, State, core, get, number, place}
-use Rattle.machine.specs.Registers.{regOf}
+use Rattle.registers.specs.Registers.{regOf}
 use Rattle.meaning.specs.Map.{Map, known}
 use Rattle.meaning.specs.Tree.{Tree, go, ask}
 use Rattle.meaning.specs.Step.{Act, actMarks, once, nothing}

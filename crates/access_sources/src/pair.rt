@@ -12,9 +12,9 @@ use addresses::halves::low_word;
 use bits::field::bit;
 use bits::field::bits;
 use machine::place::CORE;
-use machine::registers::Single;
-use machine::registers::dreg;
-use machine::registers::sreg;
+use registers::registers::Single;
+use registers::registers::dreg;
+use registers::registers::sreg;
 use sources::Source;
 
 pub(crate) fn pair_source(op: u32, double: bool, q: u32) -> Source

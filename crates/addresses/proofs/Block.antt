@@ -2,7 +2,7 @@
 use mathlib.Core.Path.{_≡_}
 use Prim.Native.Nat.{ℕ, _+_, _*_, _%_, _^_, _<_}
 use native.Mathlib.Omega.{arith}
-use Rattle.machine.specs.Registers.{singleIndex}
+use Rattle.registers.specs.Registers.{singleIndex}
 use Rattle.machine.specs.Window.{wordAt}
 
 pub word-bound : (base a : ℕ) → wordAt base a < 2 ^ 30

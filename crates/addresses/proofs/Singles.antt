@@ -2,7 +2,7 @@
 use mathlib.Core.Path.{_≡_}
 use Prim.Native.Nat.{ℕ}
 use native.Mathlib.Omega.{arith}
-use Rattle.machine.specs.Registers.{singleIndex, lowIndex, highIndex}
+use Rattle.registers.specs.Registers.{singleIndex, lowIndex, highIndex}
 
 -- a word's index is within the singles
 pub low-single : (d : ℕ) → singleIndex (lowIndex d) ≡ lowIndex d

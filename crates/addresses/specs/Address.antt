@@ -4,7 +4,7 @@ use mathlib.Core.Bool.{Bool, true, false, cond, not, _&&_}
 use mathlib.Core.List.{[], _∷_}
 use lib.Ieee.{Format, binary32, binary64}
 use Rattle.bits.specs.Field.{field, bitOf}
-use Rattle.machine.specs.Registers.{lowIndex}
+use Rattle.registers.specs.Registers.{lowIndex}
 use Rattle.machine.specs.Place.{core}
 use Rattle.meaning.specs.Step.{Step, grow}
 

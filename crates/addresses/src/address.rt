@@ -6,7 +6,7 @@ ghost use Prim.Native.Nat.{ℕ, _+_, _-_, _*_, _%_, _<_, _≤_, _^_};
 ghost use Rattle.bits.specs.Field.{field, bitOf};
 ghost use Rattle.machine.specs.declared.Machine.{Machine};
 ghost use Rattle.machine.specs.Machine.{withR};
-ghost use Rattle.machine.specs.Registers.{regOf};
+ghost use Rattle.registers.specs.Registers.{regOf};
 ghost use Rattle.machine.specs.Place.{state};
 ghost use Rattle.meaning.specs.Step.{step};
 ghost use Rattle.addresses.specs.Address.{formatOf, offset, oneOnly, several, countOf, wordsIn, firstWord, startOf, writeBack};
@@ -15,9 +15,9 @@ use bits::field::bit;
 use bits::field::bits;
 use machine::address::minus;
 use machine::address::plus;
-use machine::registers::Single;
-use machine::registers::dreg;
-use machine::registers::sreg;
+use registers::registers::Single;
+use registers::registers::dreg;
+use registers::registers::sreg;
 
 // P set and W clear: VLDR and VSTR, one register at base + or - offset.
 pub fn one_only(op: u32) -> bool

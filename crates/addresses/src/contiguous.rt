@@ -2,8 +2,8 @@
 ghost use mathlib.Core.Path.{_≡_};
 ghost use mathlib.Core.Bool.{true};
 ghost use Rattle.addresses.specs.Contiguous.{Contiguous};
-use machine::registers::Single;
 use machine::window::word_at;
+use registers::registers::Single;
 
 // Whether so many words from an address on, and singles from the first on, are so in a window of so many words.
 pub fn is_contiguous(words: usize, base: u32, start: u32, first: Single, count: u32) -> bool

@@ -1,8 +1,8 @@
 // The two words of a double, as singles.
 ghost use mathlib.Core.Path.{_≡_};
-ghost use Rattle.machine.specs.Registers.{lowIndex, highIndex};
-use machine::registers::Double;
-use machine::registers::Single;
+ghost use Rattle.registers.specs.Registers.{lowIndex, highIndex};
+use registers::registers::Double;
+use registers::registers::Single;
 
 pub fn low_word(x: Double) -> Single
     ensures { λ y. ⌜ y .0 ≡ lowIndex (x .0) ⌝ }

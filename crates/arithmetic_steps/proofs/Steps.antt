@@ -1,5 +1,5 @@
 -- What one step of a word does to the words of its registers and to FPSCR, over the precision.
-use Prim.Native.Nat.{ℕ, _+_, _*_, _%_, _/_, _^_, _≤_}
+use Prim.Native.Nat.{ℕ, _+_, _*_, _%_, _/_, _^_}
 use native.Mathlib.Omega.{arith}
 use mathlib.Core.Path.{_≡_, refl, sym, ap, _∙_}
 use mathlib.Core.Bool.{Bool, true, false, cond}
@@ -9,7 +9,7 @@ use lib.ListN.{set}
 use lib.Ieee.{Format, binary32, binary64}
 use Rattle.machine.specs.declared.Machine.{Machine}
 use Rattle.machine.specs.Machine.{withS, withFpscr, newMachine}
-use Rattle.machine.specs.Registers.{singleIndex, lowIndex, highIndex, doubleOf}
+use Rattle.registers.specs.Registers.{singleIndex, lowIndex, highIndex, doubleOf}
 use Rattle.machine.specs.Place.{State, state, get, put, sWord, lowWord, highWord, exceptions, controlOf, exceptionsOf}
 use Rattle.meaning.specs.Step.{step, fst, snd, rest}
 use Rattle.numbers.specs.declared.arithmetic.Arithmetic.{Arithmetic}

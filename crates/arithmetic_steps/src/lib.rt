@@ -1,3 +1,2 @@
-// Arithmetic over lent singles, and its iterations over short vectors.
+// Arithmetic over lent singles as definitions, and what both precisions share.
 pub mod arithmetic;
-mod register;

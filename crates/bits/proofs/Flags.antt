@@ -48,13 +48,6 @@ nzcv-psr k h =
     four : (k a b c : ℕ) → k < 2 ^ 4 → k / 2 ≡ a → a / 2 ≡ b → b / 2 ≡ c → c % 2 * 8 + b % 2 * 4 + a % 2 * 2 + k % 2 ≡ k
     four k a b c h p q r = omega arith
 
-pub nzcv-lt : (p : Psr) → nzcvOf p < 2 ^ 4
-nzcv-lt p = omega (arith, small (p .n), small (p .z), small (p .c), small (p .v))
-  where
-    small : (b : Bool) → oneOf b < 2
-    small true = omega arith
-    small false = omega arith
-
 -- the flags in the top four bits of a word, bit by bit
 pub top-bits : (w : ℕ) → flagsOf (bitOf w 31) (bitOf w 30) (bitOf w 29) (bitOf w 28) ≡ psrOf (w / 2 ^ 28)
 top-bits w = rw (div-div-eq-div-mul w (2 ^ 28) (2 ^ 3), div-div-eq-div-mul w (2 ^ 28) (2 ^ 2), div-div-eq-div-mul w (2 ^ 28) (2 ^ 1))

@@ -7,12 +7,12 @@ ghost use Rattle.meaning.specs.Step.{afterMarks};
 ghost use Rattle.addresses.specs.Contiguous.{Contiguous};
 ghost use Rattle.memory.specs.LoadStore.{accessAt};
 ghost use Rattle.place_marks.specs.Word.{mapIn};
-ghost use Rattle.limits.specs.Marks.{onesOf};
-use machine::registers::Single;
+ghost use Rattle.window_marks.specs.Marks.{onesOf};
 use machine::window::word_at;
 use place_marks::place::is_known;
 use place_marks::place::set_known;
 use place_marks::window::byte_of;
+use registers::registers::Single;
 
 // Loads: the word of marks is handed back.
 pub fn mark_block_load(

@@ -4,7 +4,7 @@ use native.Mathlib.Omega.{arith}
 use mathlib.Core.Path.{_≡_, refl}
 use mathlib.Core.List.{List, [], _∷_, _++_, append-assoc}
 use lib.ListN.{length, getD}
-use Rattle.chain_lines.specs.Chain.{firstText, separatorText, linkText, linksText, chainText, endText, laterText, joined, Printed}
+use Rattle.chain_lines.specs.Chain.{separatorText, linkText, linksText, chainText, endText, laterText, joined, Printed}
 
 same-pieces : (n : ℕ) (f g : ℕ → List ℕ) → ((k : ℕ) → f k ≡ g k) → joined n f ≡ joined n g
 unfolding joined

@@ -9,8 +9,8 @@ use Rattle.machine.specs.Place.{Place, State, get, number}
 use Rattle.meaning.specs.Map.{Map, known}
 use Rattle.meaning.specs.Step.{Step, Act, allKnown, stepMarks, afterMarks, actMarks, once, nothing}
 use Rattle.meaning.specs.Stop.{hangs}
-use Rattle.meaning.specs.Tree.{Tree, stop, go, branch, ask, Next, on, last, halt, Seen, seen, watched}
-use Rattle.chains.specs.Steps.{Event, family, stepsOf, wordSteps, actOf, eventsAt, marksAfter}
+use Rattle.meaning.specs.Tree.{Tree, stop, go, branch, ask, Next, on, last, halt, seen, watched}
+use Rattle.chains.specs.Steps.{family, stepsOf, wordSteps, actOf, eventsAt}
 use Rattle.chains.specs.Chain.{Among, writes, reads, Pair, Through, ends, keeps, links, Way}
 use Rattle.chains.specs.Origin.{Mapped, Present}
 use Rattle.chains.proofs.Marks.{mapped-all, kept, written}

@@ -7,9 +7,9 @@ use mathlib.Core.Bool.{Bool, true, false, cond, _||_, false≢true}
 use lib.ListN.{length}
 use Rattle.machine.specs.Place.{Place}
 use Rattle.meaning.specs.Map.{Map}
-use Rattle.meaning.specs.Step.{Write, Step, Act}
+use Rattle.meaning.specs.Step.{Step}
 use Rattle.chains.specs.Steps.{Event, family, eventsAt}
-use Rattle.chains.specs.Chain.{same, writes, reads, Among, Pair, Through, ends, keeps, links}
+use Rattle.chains.specs.Chain.{same, writes, reads, Among, Pair, Through, keeps, links}
 use Rattle.chains.specs.Origin.{Within}
 use Rattle.chains.proofs.Ways.{links-within}
 

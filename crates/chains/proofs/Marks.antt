@@ -1,18 +1,18 @@
 -- What a step leaves of a place, and one step back from an unknown place.
-use Prim.Native.Nat.{ℕ, zero, suc, _<_, _≤_}
+use Prim.Native.Nat.{ℕ, zero, suc}
 use native.Mathlib.Omega.{arith}
 use mathlib.Core.Path.{_≡_, refl, ap, sym, _∙_, subst}
-use mathlib.Core.Logic.{_⊎_, inl, inr}
+use mathlib.Core.Logic.{inl, inr}
 use mathlib.Core.List.{List, [], _∷_}
 use mathlib.Core.Bool.{Bool, true, false, cond, _&&_, _||_, false≢true}
-use lib.ListN.{length, getD, set, length-set}
+use lib.ListN.{getD, set, length-set}
 use lib.Dec.{T, eqb, eqb→eq}
 use lib.Seq.{getD-set-same, getD-set-other}
 use borrow.Author.Tests.{eq-eqb}
 use Rattle.bits.specs.Psr.{oneOf}
 use Rattle.machine.specs.Place.{Place, single, core, word, flags, control, exc, nzcv, exceptions}
 use Rattle.meaning.specs.Map.{Map, known, mark}
-use Rattle.meaning.specs.Step.{Write, Step, allKnown, markAll, stepMarks}
+use Rattle.meaning.specs.Step.{Step, allKnown, markAll, stepMarks}
 use Rattle.chains.specs.Chain.{kind, ordinal, same, writes, reads, Among}
 use Rattle.chains.specs.Origin.{Mapped, Present}
 

@@ -3,19 +3,19 @@ use Prim.Native.Nat.{ℕ, zero, suc, _+_, _*_, _≤_, _<_}
 use native.Mathlib.Omega.{arith}
 use native.Mathlib.Nat.{mul-suc}
 use mathlib.Core.Path.{_≡_, refl, ap, sym, _∙_, subst}
-use mathlib.Core.List.{List, [], _∷_, _++_}
+use mathlib.Core.List.{List, [], _∷_}
 use mathlib.Core.Bool.{Bool, true, false, cond}
 use lib.ListN.{length, length-append}
 use Rattle.machine.specs.Place.{Place, State, get, number}
 use Rattle.meaning.specs.Map.{Map, known}
-use Rattle.meaning.specs.Step.{Step, Act, step, stepMarks, actMarks}
+use Rattle.meaning.specs.Step.{Step, Act, step}
 use Rattle.meaning.specs.Stop.{hangs}
-use Rattle.meaning.specs.Tree.{Tree, stop, go, branch, ask, Next, on, last, halt, Seen, seen, watched}
+use Rattle.meaning.specs.Tree.{Tree, stop, go, branch, ask, Next, on, last, halt, seen, watched}
 use Rattle.meaning.specs.Run.{advance, Watched, followWith, watch}
 use Rattle.chains.specs.Steps.{Event, family, stepsOf, wordSteps, eventsAt, goingOn, runSteps, marksAfter}
-use Rattle.chains.specs.Chain.{Pair, Through, ends, keeps, links, Chain}
-use Rattle.chains.specs.Origin.{Mapped, Present, ReadsPresent, EveryAct, Sound, Within, Rising, Origin, Existence, Bound, Order, Unknown}
-use Rattle.chains.proofs.Ways.{Parts, part-at, links-within, ends-unknown, Found, AllPresent, found, act-marks}
+use Rattle.chains.specs.Chain.{Pair, Through, ends, keeps, links}
+use Rattle.chains.specs.Origin.{ReadsPresent, EveryAct, Sound, Within, Rising, Existence, Bound, Order, Unknown}
+use Rattle.chains.proofs.Ways.{part-at, links-within, ends-unknown, AllPresent, found, act-marks}
 
 -- ---- the map after the steps of a run is the run's
 

@@ -1,15 +1,15 @@
 -- Ways through lists of steps: put together, taken apart, counted, and found by walking back.
-use Prim.Native.Nat.{ℕ, zero, suc, _+_, _≤_, _<_}
+use Prim.Native.Nat.{ℕ, zero, suc, _≤_}
 use native.Mathlib.Omega.{arith}
-use mathlib.Core.Path.{_≡_, refl, ap, sym, _∙_, subst}
-use mathlib.Core.List.{List, [], _∷_, _++_, append-assoc}
-use mathlib.Core.Bool.{Bool, true, false, cond, false≢true}
-use lib.ListN.{length, length-append}
+use mathlib.Core.Path.{_≡_, refl, ap, _∙_, subst}
+use mathlib.Core.List.{List, [], _∷_, _++_}
+use mathlib.Core.Bool.{false}
+use lib.ListN.{length}
 use Rattle.machine.specs.Place.{Place}
 use Rattle.meaning.specs.Map.{Map, known}
 use Rattle.meaning.specs.Step.{Step, Act, stepMarks, afterMarks, actMarks}
 use Rattle.chains.specs.Steps.{Event, family, stepsOf, eventsAt, marksAfter}
-use Rattle.chains.specs.Chain.{Among, writes, reads, Pair, Through, ends, keeps, links}
+use Rattle.chains.specs.Chain.{Pair, Through, ends, keeps, links}
 use Rattle.chains.specs.Origin.{Mapped, Present, ReadsPresent}
 use Rattle.chains.proofs.Marks.{mapped-all, kept, Came, stayed, read, back}
 

@@ -1,13 +1,13 @@
 -- Where an unknown place came from: a chain of places through the steps of a watched run.
 use Prim.Native.Nat.{ℕ}
 use mathlib.Core.Path.{_≡_}
-use mathlib.Core.Bool.{Bool, true, false, cond, _&&_, _||_}
+use mathlib.Core.Bool.{Bool, false, cond, _&&_, _||_}
 use mathlib.Core.Logic.{_⊎_}
 use mathlib.Core.List.{List, [], _∷_}
 use lib.Dec.{eqb}
 use Rattle.machine.specs.Place.{Place, single, core, word, flags, control, exc, nzcv, exceptions, State}
 use Rattle.meaning.specs.Map.{Map, known}
-use Rattle.meaning.specs.Step.{Write, Step, Act, stepMarks}
+use Rattle.meaning.specs.Step.{Step, Act, stepMarks}
 use Rattle.meaning.specs.Tree.{Tree}
 use Rattle.chains.specs.Steps.{Event, stepsOf, eventsAt, runSteps}
 

@@ -2,7 +2,7 @@
 use mathlib.Core.Path.{refl}
 use lib.Ieee.{ofBits, toBits, nanBits, eq, lt, isNan}
 use Rattle.machine.specs.Window.{wordAt}
-use Rattle.numbers.specs.Compare.{compareFlags, compareExceptions}
+use Rattle.comparisons.specs.Compare.{compareFlags, compareExceptions}
 use Rattle.floats.specs.Flush.{flush}
 use Rattle.rounding.specs.Rounding.{roundingOf, rounded, exact, over, tiny}
 use Rattle.exceptions.specs.Exceptions.{fractionExceptions}

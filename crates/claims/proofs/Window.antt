@@ -10,7 +10,7 @@ use borrow.Author.Tests.{eqb-true, ltb-false}
 use lib.Ieee.{Format, binary32, binary64}
 use Rattle.bits.specs.Field.{field, bitOf}
 use Rattle.bits.specs.Psr.{oneOf}
-use Rattle.machine.specs.Registers.{regOf}
+use Rattle.registers.specs.Registers.{regOf}
 use Rattle.machine.specs.Window.{aligned, inside, readAt, writtenAt, wordAt}
 use Rattle.machine.specs.Place.{State, state, core, sWord, lowWord, highWord, get, put}
 use Rattle.machine.proofs.Inside.{entry-inside, read-inside, write-inside}

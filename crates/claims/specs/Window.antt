@@ -9,7 +9,7 @@ use lib.ListN.{length, getD}
 use lib.Ieee.{Format, binary32, binary64}
 use Rattle.bits.specs.Field.{field, bitOf}
 use Rattle.bits.specs.Psr.{oneOf}
-use Rattle.machine.specs.Registers.{regOf}
+use Rattle.registers.specs.Registers.{regOf}
 use Rattle.machine.specs.Window.{aligned, inside, readAt, writtenAt, wordAt}
 use Rattle.machine.specs.Place.{State, state, core, word, sWord, lowWord, highWord, get, put}
 use Rattle.meaning.specs.Map.{Map, mapOf, known, mark}

@@ -4,7 +4,7 @@ use mathlib.Core.Bool.{Bool, true, false, not, cond}
 use Prim.Native.Nat.{ℕ, _-_, _*_, _/_, _%_, _^_, _≤_, _<_}
 use native.Mathlib.Nat.{mul-pos}
 use native.Mathlib.Omega.{arith}
-use lib.Dec.{leb, lit<}
+use lib.Dec.{lit<}
 use lib.Ieee.{Float, nan, inf, fin, Format, binary32, binary64, unlike, round, neg, ofBits, toBits}
 use lib.Ieee.Back.{round-whole}
 use lib.Ieee.Bits.{ofBits-toBits}
@@ -21,7 +21,6 @@ use Rattle.packing.proofs.Written.{rounded-nearest}
 use Rattle.operators.specs.Operators.{sumSize, sumSign, sum, difference, product, quotient}
 use Rattle.operators.proofs.Sums.{sum-at}
 use Rattle.operators.proofs.Values.{product-at, quotient-at}
-use Rattle.directed.specs.Directed.{appliedBy, arithmeticBy}
 use Rattle.directed.proofs.Values.{applied-value, number-applied}
 use Rattle.directed.proofs.Control.{kept}
 use Rattle.nans.specs.Nan.{resized}
@@ -29,7 +28,6 @@ use Rattle.nans.proofs.Choosing.{valued-number}
 use Rattle.widths.specs.Convert.{narrowed, narrow, narrowNumber}
 use Rattle.integers.specs.Integer.{integerValue, fromInteger}
 use Rattle.correct_rounding.specs.Operations.{negative, magnitude, Correct}
-use Rattle.numbers.specs.declared.arithmetic.Arithmetic.{Arithmetic}
 use Rattle.widths.proofs.Narrow.{narrowed-value}
 use Rattle.integers.proofs.Laws.{from-integer-exact}
 use Rattle.integers.proofs.Sight.{to-integer-names}

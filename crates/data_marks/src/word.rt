@@ -1,25 +1,24 @@
 // The marks of stepping words, by the precision: those of all iterations.
-ghost use mathlib.Core.Path.{_≡_};
 ghost use Rattle.short_vectors.specs.Vector.{precision, iterationsOf, monadicStep};
-ghost use Rattle.steps.specs.declared.sign.SignOperation.{SignOperation};
-ghost use Rattle.steps.specs.Sign.{signStep};
-ghost use Rattle.steps.specs.Root.{rootStep};
+ghost use Rattle.sign_steps.specs.declared.sign.SignOperation.{SignOperation};
+ghost use Rattle.sign_steps.specs.Sign.{signStep};
+ghost use Rattle.root_steps.specs.Root.{rootStep};
 ghost use Rattle.arithmetic_steps.specs.Arithmetic.{dyadicStep};
-ghost use Rattle.decoding.specs.Fields.{regD, regN, regM};
+ghost use Rattle.register_fields.specs.Fields.{regD, regN, regM};
 ghost use Rattle.processing_marks.specs.Marked.{MarksIterated};
-use decoding::fields::double_d;
-use decoding::fields::double_m;
-use decoding::fields::double_n;
-use decoding::fields::single_d;
-use decoding::fields::single_m;
-use decoding::fields::single_n;
+use arithmetic_marks::arithmetic::arithmetic_doubles;
+use arithmetic_marks::arithmetic::arithmetic_singles;
 use numbers::arithmetic::Arithmetic;
-use processing_marks::vector::arithmetic_doubles;
-use processing_marks::vector::arithmetic_singles;
 use processing_marks::vector::copy_doubles;
 use processing_marks::vector::copy_singles;
-use processing_marks::vector::root_doubles;
-use processing_marks::vector::root_singles;
+use register_fields::fields::double_d;
+use register_fields::fields::double_m;
+use register_fields::fields::double_n;
+use register_fields::fields::single_d;
+use register_fields::fields::single_m;
+use register_fields::fields::single_n;
+use root_marks::root::root_doubles;
+use root_marks::root::root_singles;
 
 pub(crate) fn mark_arithmetic(
     marks: u64,

@@ -15,11 +15,11 @@ use Rattle.meaning.specs.Map.{Map, known}
 use Rattle.meaning.specs.Step.{Step, Act, actMarks, once, nothing}
 use Rattle.meaning.specs.Tree.{Tree, go}
 use Rattle.meaning.specs.Hang.{clear, hangOf}
-use Rattle.steps.specs.Compare.{compareStep, compareZeroStep}
-use Rattle.conversions.specs.Integer.{fromStep, truncateStep, roundStep}
+use Rattle.compare_steps.specs.Compare.{compareStep, compareZeroStep}
+use Rattle.integer_steps.specs.Integer.{fromStep, truncateStep, roundStep}
 use Rattle.decoding.specs.declared.operation.Operation.{Operation}
 use Rattle.decoding.specs.declared.operation.Operation.the-variants.{Fcvt}
-use Rattle.decoding.specs.Fields.{regD, regN, regM}
+use Rattle.register_fields.specs.Fields.{regD, regN, regM}
 use Rattle.decoding.specs.Operation.{operationOf, operationNumbered, numberOf}
 use Rattle.decoding.proofs.operation.Operation.{the-type}
 use Rattle.decoding.proofs.Entries.{numbered-number}

@@ -1,4 +1,2 @@
-// Which registers and which operation a data-processing word names.
-pub mod fields;
+// Which operation a data-processing word names.
 pub mod operation;
-pub mod table;

@@ -69,9 +69,6 @@ pub sticky-some : (r : ℕ) → (r ≡ 0 → ⊥) → 1 ≡ sticky r
 sticky-some zero h = absurd (h refl)
 sticky-some (suc r) h = refl
 
-pub sticky-none : (r : ℕ) → r ≡ 0 → 0 ≡ sticky r
-sticky-none r e = sym (ap sticky e)
-
 pub sticky-le : (r : ℕ) → sticky r ≤ 1
 sticky-le zero = lit≤ tt
 sticky-le (suc r) = lit≤ tt

@@ -25,9 +25,6 @@ use Rattle.packing.proofs.Settle.{settled-same}
 
 -- a number q * u + p and a part r / v of one, against a half: u is twice h
 module _ (p h v r : ℕ) (R : r < v) where
-  less : (pv hv : ℕ) → p < h → pv + v ≤ hv → pv + r < hv
-  less pv hv l k = omega arith
-
   by : (o : Ordering) → Cmp o (p * v + r) (h * v) → Cmp o (2 * p + sticky r) (2 * h)
   by = go r R
     where

@@ -1,7 +1,7 @@
 // A finite word that is not 0, taken apart: 53 digits and an exponent, in one form for both widths.
 ghost use mathlib.Core.Path.{_≡_};
 ghost use mathlib.Core.Bool.{_&&_};
-ghost use Prim.Native.Nat.{_*_, _%_, _<_};
+ghost use Prim.Native.Nat.{_%_};
 ghost use lib.Dec.{leb, ltb};
 ghost use lib.Ieee.{binary32, binary64, ofBits};
 ghost use Rattle.digits.specs.Digits.{IsNumber, IsOperand};

@@ -9,14 +9,14 @@ use lib.Ieee.Bits.{toBits-ofBits}
 use Rattle.rounding.specs.Rounding.{roundingOf}
 use Rattle.rounding.specs.declared.rounding.Rounding.{Rounding}
 use Rattle.rounding.specs.declared.rounding.Rounding.the-variants.{Nearest}
-use Rattle.operators.specs.Operators.{sum, difference, product, quotient}
+use Rattle.operators.specs.Operators.{product}
 use Rattle.numbers.specs.Arithmetic.{apply, applied}
 use Rattle.numbers.specs.declared.arithmetic.Arithmetic.{Arithmetic}
 use Rattle.numbers.specs.declared.arithmetic.Arithmetic.the-variants.{MultiplyAccumulate, MultiplySubtract, NegateMultiplySubtract, NegateMultiplyAccumulate, Multiply, NegateMultiply, Add, Subtract, Divide}
 use Rattle.numbers.proofs.Applying.{word-of-value}
 use Rattle.directed.proofs.Values.{applied-value, applied-lt}
 use Rattle.operators.proofs.Nearest.{sum-nearest, difference-nearest, product-nearest, quotient-nearest}
-use Rattle.directed.specs.Directed.{applyBy, appliedBy, arithmeticBy}
+use Rattle.directed.specs.Directed.{applyBy, appliedBy}
 
 pub apply-nearest : (f : Format) (kind : Arithmetic) (n m d : Float) → applyBy Nearest f kind n m d ≡ apply f kind n m d
 apply-nearest f MultiplyAccumulate n m d = sum-nearest f d (product Nearest f n m) ∙ ap (add f d) (product-nearest f n m)

@@ -1,14 +1,12 @@
 -- A word with its sign flipped. Over the format. Assumes nothing.
-use mathlib.Core.Path.{_≡_, refl, sym, ap, _∙_, subst}
+use mathlib.Core.Path.{_≡_, refl, sym, ap, _∙_}
 use mathlib.Core.Bool.{Bool, true, false, not, cond}
 use Prim.Native.Nat.{ℕ, zero, suc, _+_, _*_, _/_, _%_, _≤_, _<_}
 use native.Mathlib.Omega.{arith}
 use native.Mathlib.Decide.{decLe}
 use borrow.Author.Tests.{le-leb, lt-leb}
-use lib.Dec.{T, leb, eqb}
-use lib.Ieee.{Float, nan, inf, fin, Format, binary32, binary64, prec, low, odd, hid, ones, top, neg, isNan, ofBits, ofFields, toBits, nanBits}
-use lib.Ieee.Bits.{toBits-ofBits, nanBits-is}
-use Rattle.floats.proofs.Patterns.{reads-nan}
+use lib.Dec.{leb, eqb}
+use lib.Ieee.{Float, nan, inf, Format, binary32, binary64, prec, low, odd, hid, ones, top, neg, ofBits, ofFields}
 
 neg-odd : (d : ℕ) (s : Bool) (q k l : ℕ) → odd d (not s) q k l ≡ neg (odd d s q k l)
 unfolding odd neg

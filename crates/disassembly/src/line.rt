@@ -7,7 +7,7 @@ ghost use Rattle.disassembly.specs.Line.{wordText, addressText, lineOf};
 use access_mnemonics::load_store::load_store;
 use bits::field::bit;
 use bits::field::bits;
-use decoding::table::operation;
+use decode_table::table::operation;
 use processing_mnemonics::data::data;
 use text::text::Text;
 use transfer_mnemonics::transfer::transfer;

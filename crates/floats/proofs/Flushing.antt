@@ -3,17 +3,17 @@ use mathlib.Core.Path.{_≡_, refl, sym, ap, _∙_, subst}
 use mathlib.Core.Logic.{_⊎_, inl, inr}
 use mathlib.Core.Bool.{Bool, true, false, _&&_, cond}
 use Prim.Native.Nat.{ℕ, suc, _+_, _-_, _*_, _/_, _%_, _^_, _≤_, _<_}
-use native.Mathlib.Nat.{le-trans, le-of-eq, lt-of-le-of-lt, lt-of-lt-of-le, lt-of-not-le, le-of-suc-le-suc, mul-one, one-mul, mul-comm, mul-right-comm, mul-pos, mul-le-mul-right, mul-le-mul-left, mul-lt-mul-of-pos-right, lt-of-mul-lt-mul-right, le-of-mul-le-mul-right, div-add-mod', div-eq-of-lt, div-mul-le-self, le-div-iff-mul-le, div-lt-iff-lt-mul, mod-lt, eq-or-lt-of-le, zero-lt-suc, add-zero, eq-zero-or-pos}
+use native.Mathlib.Nat.{le-trans, le-of-eq, lt-of-le-of-lt, lt-of-lt-of-le, lt-of-not-le, le-of-suc-le-suc, mul-one, one-mul, mul-comm, mul-right-comm, mul-pos, mul-le-mul-right, mul-le-mul-left, mul-lt-mul-of-pos-right, lt-of-mul-lt-mul-right, le-of-mul-le-mul-right, div-add-mod', div-eq-of-lt, le-div-iff-mul-le, div-lt-iff-lt-mul, mod-lt, eq-or-lt-of-le, zero-lt-suc, add-zero, eq-zero-or-pos}
 use native.Mathlib.Decide.{decLt}
 use native.Mathlib.Omega.{arith}
 use lib.IntN.{pos}
-use lib.Dec.{T, leb, ltb}
+use lib.Dec.{leb, ltb}
 use lib.Pow.{pow-pos}
-use borrow.Author.Tests.{ltb-false, lt-ltb, le-ltb, eq-eqb, ne-eqb}
+use borrow.Author.Tests.{lt-ltb, le-ltb, eq-eqb, ne-eqb}
 use lib.Ieee.{Float, nan, inf, fin, Format, binary32, binary64, emax, low, up, down, hid, ones, top, ofBits}
 use lib.Ieee.Fits.{down-pos}
 use lib.Ieee.Exact.{HasValue}
-use Rattle.floats.specs.Flush.{flushes, flush, flushed, subnormal}
+use Rattle.floats.specs.Flush.{flushes, flush, flushed}
 use Rattle.floats.proofs.Units.{hid-pos, sign-bit, reads-low, reads-mid, reads-inf}
 use Rattle.floats.proofs.Patterns.{nan-of-fields}
 
@@ -53,17 +53,6 @@ flush-large f control b l = sym (flush-is f control b (flushes control) false re
 abbrev pub NotSubnormal : Format → ℕ → Type 0
 NotSubnormal f b = (b % top f ≡ 0) ⊎ (hid f ≤ b % top f)
 
-pub not-subnormal : (f : Format) (b : ℕ) → subnormal f b ≡ false → NotSubnormal f b
-not-subnormal f b e = go (ltb 0 (b % top f)) (ltb (b % top f) (hid f)) refl refl e
-  where
-    least : (z : ℕ) → z ≤ 0 → z ≡ 0
-    least z h = omega arith
-
-    go : (x y : Bool) → ltb 0 (b % top f) ≡ x → ltb (b % top f) (hid f) ≡ y → (x && y) ≡ false → NotSubnormal f b
-    go false y p q e = inl (least (b % top f) (ltb-false 0 (b % top f) p))
-    go true false p q e = inr (ltb-false (b % top f) (hid f) q)
-    go true true p q e = absurd (subst T e tt)
-
 pub flush-none : (f : Format) (control b : ℕ) → NotSubnormal f b → flush f control b ≡ b
 flush-none f control b (inl z) =
     flush-is f control b (flushes control) (ltb (b % top f) (hid f)) refl refl
@@ -72,16 +61,6 @@ flush-none f control b (inr l) = sym (flush-large f control b l)
 
 top-pos : (f : Format) → 0 < top f
 top-pos f = mul-pos (hid-pos f) (zero-lt-suc (ones f))
-
--- in a word of the format
-pub flush-lt : (f : Format) (control b : ℕ) → b < 2 * top f → flush f control b < 2 * top f
-flush-lt f control b h =
-    subst (λ (x : ℕ). x < 2 * top f) (sym (flush-is f control b (flushes control) (ltb (b % top f) (hid f)) refl refl))
-    (go (flushes control && ltb (b % top f) (hid f)))
-  where
-    go : (t : Bool) → cond t (b / top f * top f) b < 2 * top f
-    go true = lt-of-le-of-lt (div-mul-le-self b (top f)) h
-    go false = h
 
 -- ---- on values
 

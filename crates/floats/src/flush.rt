@@ -1,7 +1,7 @@
 // Flush to zero, as a result is stored under FPSCR bit 24. Operands are never flushed.
 ghost use mathlib.Core.Path.{_≡_};
 ghost use lib.Ieee.{binary32, binary64};
-ghost use Rattle.floats.specs.Flush.{flush, subnormal};
+ghost use Rattle.floats.specs.Flush.{flush};
 
 pub fn flush32(control: u32, bits: u32) -> u32
     ensures { λ r. ⌜ r ≡ flush binary32 control bits ⌝ }
@@ -25,19 +25,4 @@ pub fn flush64(control: u32, bits: u64) -> u64
         return bits / 0x8000_0000_0000_0000 * 0x8000_0000_0000_0000;
     }
     bits
-}
-
-// The sum drops the sign, and one less puts zero last.
-pub fn is_subnormal32(bits: u32) -> bool
-    ensures { λ r. ⌜ r ≡ subnormal binary32 bits ⌝ }
-{
-    let doubled = std::num::wrapping_add_u32(bits, bits);
-    std::num::wrapping_add_u32(doubled, 0xFFFF_FFFF) < 0xFF_FFFF
-}
-
-pub fn is_subnormal64(bits: u64) -> bool
-    ensures { λ r. ⌜ r ≡ subnormal binary64 bits ⌝ }
-{
-    let doubled = std::num::wrapping_add_u64(bits, bits);
-    std::num::wrapping_add_u64(doubled, 0xFFFF_FFFF_FFFF_FFFF) < 0x1F_FFFF_FFFF_FFFF
 }

@@ -1,7 +1,7 @@
 // The words of a period, granted to routines.
 ghost use Rattle.outcomes.specs.Grant.{grantOutcome};
 ghost use Rattle.outcomes.specs.GrantPromise.{GrantPromise};
-use state_calls::grant::grant_call;
+use grant_calls::grant::grant_call;
 
 // What each routine is granted of a period.
 #[no_mangle]

@@ -17,13 +17,13 @@ ghost use Rattle.run.specs.Run.{runReply};
 ghost use Rattle.outcomes.specs.Outcome.{outcome, called, ran, renewed, checked};
 ghost use Rattle.outcomes.specs.WatchOutcome.{watchOutcome};
 ghost use Rattle.outcomes.specs.WatchPromise.{WatchPromise};
-use ported_calls::coprocessor_load_store_call;
-use ported_calls::coprocessor_register_call;
-use ported_calls::data_processing_call;
+use load_store_calls::load_store::coprocessor_load_store_call;
+use processing_calls::data_processing_call;
 use run_calls::run_call;
-use run_calls::watch_call;
 use state_calls::check_condition_call;
 use state_calls::new_call;
+use transfer_calls::transfer::coprocessor_register_call;
+use watch_calls::call::watch_call;
 
 // A new machine's state.
 #[no_mangle]

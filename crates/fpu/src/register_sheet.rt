@@ -1,6 +1,6 @@
 // The register sheet of a state.
 ghost use Rattle.outcomes.specs.Sheet.{sheetOutcome, SheetPromise};
-use state_calls::register_sheet::sheet_call;
+use sheet_calls::register_sheet::sheet_call;
 
 // Lays the doubles of a state out on a page, with their marks: bit p of the word is that of place p. No line shows the Thumb bit.
 #[no_mangle]

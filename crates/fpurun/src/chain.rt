@@ -6,7 +6,7 @@ ghost use Rattle.decoding.specs.Table.{operationTable};
 use super::output::print;
 use chain_lines::chain;
 use chain_lines::place;
-use decoding::table::operations;
+use decode_table::table::operations;
 use libc::STDOUT_FILENO;
 use machine::place::WINDOW;
 use text::text::Text;

@@ -2,7 +2,7 @@
 ghost use mathlib.Core.Path.{_≡_};
 ghost use Rattle.decoding.specs.Table.{operationTable};
 use super::output::print;
-use decoding::table::operations;
+use decode_table::table::operations;
 use disassembly::line;
 use libc::STDOUT_FILENO;
 use machine::address::plus;

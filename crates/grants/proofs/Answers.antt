@@ -1,5 +1,5 @@
 -- From what the parts do to what is promised of an answer.
-use Prim.Native.Nat.{ℕ, zero, suc, _+_, _<_, _≤_, min}
+use Prim.Native.Nat.{ℕ, zero, suc, _+_, _≤_}
 use native.Mathlib.Omega.{arith}
 use mathlib.Core.Path.{_≡_, refl, sym, _∙_, ap}
 use mathlib.Core.Bool.{Bool, true, false, cond, _&&_, _||_}
@@ -11,8 +11,8 @@ use borrow.Author.Tests.{ltb-false, leb-true, eq-eqb, ne-eqb}
 use Rattle.phases.specs.Round.{sum, most, rounds}
 use Rattle.grants.specs.Refusal.{within, refusalOf}
 use Rattle.phases.specs.Share.{shared}
-use Rattle.grants.specs.Grant.{Reply, reply, grantsOf, granted, answered, equalLengths, unequal}
-use Rattle.grants.specs.Promise.{Bounds, Promise}
+use Rattle.grants.specs.Grant.{reply, grantsOf, granted, answered, equalLengths, unequal}
+use Rattle.grants.specs.Promise.{Promise}
 use Rattle.phases.proofs.Turns.{below-or-not, length-rounds, sum-rounds, rounds-bounded, settled}
 use Rattle.phases.proofs.Loops.{getD-shared, length-shared}
 

@@ -22,7 +22,7 @@ use Rattle.decoding.specs.Operation.{operationNumbered, operationOf, numberOf}
 use Rattle.decoding.proofs.operation.Operation.{the-type}
 use Rattle.decoding.proofs.Named.{one-of}
 use Rattle.meaning.proofs.Laws.{clear-go}
-use Rattle.decoding.specs.Fields.{regD}
+use Rattle.register_fields.specs.Fields.{regD}
 use Rattle.processing.specs.Data.{stepping, undefinedTree, operationTree, dataTree}
 use Rattle.memory.specs.LoadStore.{accessTree, loadStoreTree}
 use Rattle.transfers.specs.declared.Transfer.{Transfer}

@@ -1,7 +1,5 @@
 // The place that a word of a class hangs on, if any: Undefined, a stepping word, a load or store. The condition stands before them, in crate
 // `watch`, and a transfer hangs on nothing.
-pub mod access;
-pub mod data;
 
 ghost use mathlib.Core.Path.{_≡_};
 ghost use mathlib.Core.Bool.{cond};
@@ -14,7 +12,7 @@ pub enum Hang {
 }
 
 // A place that is asked for.
-fn asked(known: bool, place: usize) -> Hang
+pub fn asked(known: bool, place: usize) -> Hang
     ensures { λ h. ⌜ hangIs h ≡ cond known clear (at place) ⌝ }
 {
     if known {

@@ -1,4 +1,4 @@
-// Integers' words as floats, and floats as integers' words, by integer work on the bits.
+// Integers' words as floats, by integer work on the bits.
 ghost use mathlib.Core.Path.{_≡_};
 ghost use mathlib.Core.Bool.{cond};
 ghost use Prim.Native.Nat.{_<_, _^_};
@@ -7,11 +7,11 @@ ghost use Rattle.packing.specs.Pack.{IsSettled};
 ghost use Rattle.rounding.specs.Rounding.{roundingOf};
 ghost use Rattle.rounding.specs.declared.rounding.Rounding.{Rounding};
 ghost use Rattle.exceptions.specs.Exceptions.{inexact};
-ghost use Rattle.integers.specs.Integer.{fromInteger, clamped, toInteger, outside, clampedExceptions, fromIntegerExceptions, toIntegerExceptions};
-use exceptions::exceptions::INVALID;
+ghost use Rattle.integers.specs.Integer.{fromInteger, fromIntegerExceptions};
 use exceptions::exceptions::Raised32;
 use exceptions::exceptions::Raised64;
 use exceptions::exceptions::settled;
+use narrowing::narrow::shorten;
 use packing::pack::Settled32;
 use packing::pack::Settled64;
 use packing::pack::settle32;
@@ -19,11 +19,7 @@ use packing::pack::settle64;
 use packing::pack::sign32;
 use rounding::lift::lift;
 use rounding::rounding::Rounding;
-use rounding::rounding::cut;
-use rounding::rounding::least;
 use rounding::rounding::rounding_of;
-use widths::convert::shorten;
-use widths::convert::widen;
 
 // A whole number as a single, rounded. Of its 53 digits 29 are dropped, and it is never too large.
 fn whole32(control: u32, negative: bool, n: u64) -> Settled32
@@ -100,88 +96,4 @@ pub fn from_integer64(signed: bool, w: u32) -> Raised64
         bits: r.bits,
         exceptions: 0,
     }
-}
-
-// A whole number of the given sign as a word, brought to the nearest end of the range.
-fn clamp(signed: bool, negative: bool, n: u64) -> u32
-    ensures { λ r. ⌜ r ≡ clamped signed negative n ⌝ }
-{
-    if signed {
-        if negative {
-            let size = least(n, 0x8000_0000);
-            return ((0x1_0000_0000 - size) % 0x1_0000_0000) as u32;
-        }
-        return least(n, 0x7FFF_FFFF) as u32;
-    }
-    if negative {
-        return 0;
-    }
-    least(n, 0xFFFF_FFFF) as u32
-}
-
-fn is_outside(signed: bool, negative: bool, n: u64) -> bool
-    ensures { λ r. ⌜ r ≡ outside signed negative n ⌝ }
-{
-    if signed {
-        if negative {
-            return n > 0x8000_0000;
-        }
-        return n >= 0x8000_0000;
-    }
-    if negative {
-        return n > 0;
-    }
-    n >= 0x1_0000_0000
-}
-
-// The word, and what it raises: a size outside the range is invalid, and not inexact.
-fn clamp_raised(signed: bool, negative: bool, n: u64, exact: bool) -> Raised32
-    ensures { λ r. ⌜ (r .bits ≡ clamped signed negative n) × (r .exceptions ≡ clampedExceptions signed negative n exact) ⌝ }
-{
-    if is_outside(signed, negative, n) {
-        return Raised32 {
-            bits: clamp(signed, negative, n),
-            exceptions: INVALID,
-        };
-    }
-    Raised32 {
-        bits: clamp(signed, negative, n),
-        exceptions: settled(exact, false, false),
-    }
-}
-
-// A double's bits as an integer's word.
-pub fn to_integer64(mode: Rounding, signed: bool, b: u64) -> Raised32
-    ensures { λ r. ⌜ (r .bits ≡ toInteger binary64 mode signed b) × (r .exceptions ≡ toIntegerExceptions binary64 mode signed b) ⌝ }
-{
-    let negative = b >= 0x8000_0000_0000_0000;
-    let field = b % 0x8000_0000_0000_0000 / 0x10_0000_0000_0000;
-    let t = b % 0x10_0000_0000_0000;
-    if field == 2047 {
-        if t == 0 {
-            return clamp_raised(signed, negative, 0x1_0000_0000, true);
-        }
-        return Raised32 {
-            bits: 0,
-            exceptions: INVALID,
-        };
-    }
-    if field == 0 {
-        let c = cut(mode, negative, t, 63);
-        return clamp_raised(signed, negative, c.kept, c.exact);
-    }
-    if field > 1054 {
-        return clamp_raised(signed, negative, 0x1_0000_0000, true);
-    }
-    let m = 0x10_0000_0000_0000 + t;
-    let c = cut(mode, negative, m, least(1075 - field, 63));
-    clamp_raised(signed, negative, c.kept, c.exact)
-}
-
-// A single's word as an integer's word: it is first widened, which loses nothing. A NaN is invalid as a double, signalling or not.
-pub fn to_integer32(mode: Rounding, signed: bool, b: u32) -> Raised32
-    ensures { λ r. ⌜ (r .bits ≡ toInteger binary32 mode signed b) × (r .exceptions ≡ toIntegerExceptions binary32 mode signed b) ⌝ }
-{
-    let x = widen(0, b);
-    to_integer64(mode, signed, x.bits)
 }

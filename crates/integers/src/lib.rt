@@ -1,2 +1,2 @@
-// Conversions of register words from and to integers.
+// Conversions of register words from and to integers as definitions, and from integers.
 pub mod integer;

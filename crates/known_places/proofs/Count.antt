@@ -1,5 +1,5 @@
 -- The laws of the number of known places: it is the number of ones of the word of marks, without the bits above the last place, and of the window's.
-use Prim.Native.Nat.{ℕ, zero, suc, _+_, _*_, _/_, _%_, _^_, _<_, _≤_}
+use Prim.Native.Nat.{ℕ, _+_, _*_, _%_, _^_, _<_, _≤_}
 use native.Mathlib.Omega.{arith}
 use native.Mathlib.Nat.{mod-lt}
 use mathlib.Core.Path.{_≡_, refl, sym, ap, ap₂, _∙_}
@@ -12,9 +12,8 @@ use lib.Pow.{pow-pos}
 use lib.ListN.{length, getD, set}
 use Rattle.bits.specs.Psr.{oneOf}
 use Rattle.machine.specs.Place.{before}
-use Rattle.meaning.specs.Map.{Marks}
-use Rattle.limits.specs.Marks.{isOne, onesOf}
-use Rattle.limits.proofs.Ones.{ones-set}
+use Rattle.window_marks.specs.Marks.{isOne, onesOf}
+use Rattle.window_marks.proofs.Ones.{ones-set}
 use Rattle.place_marks.specs.Word.{numberOf, marksOf, mapIn, wordOf}
 use Rattle.place_marks.proofs.Word.{half, odd, one-lt, word-marks}
 use Rattle.known_places.specs.Count.{trues, knownBefore, knownPlaces}

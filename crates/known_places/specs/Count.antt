@@ -3,7 +3,7 @@ use Prim.Native.Nat.{ℕ, _+_}
 use mathlib.Core.Bool.{Bool}
 use mathlib.Core.List.{List, [], _∷_, _++_}
 use Rattle.bits.specs.Psr.{oneOf}
-use Rattle.limits.specs.Marks.{onesOf}
+use Rattle.window_marks.specs.Marks.{onesOf}
 use Rattle.meaning.specs.Map.{Marks, Map}
 
 unfoldable pub trues : List Bool → ℕ

@@ -5,12 +5,12 @@ ghost use lib.ListN.{length, set};
 ghost use Rattle.bits.specs.Psr.{oneOf};
 ghost use Rattle.machine.specs.Place.{before};
 ghost use Rattle.machine.specs.Window.{wordAt};
-ghost use Rattle.limits.specs.Marks.{onesOf};
+ghost use Rattle.window_marks.specs.Marks.{onesOf};
 ghost use Rattle.place_marks.specs.Word.{marksOf};
 ghost use Rattle.known_places.specs.Count.{knownBefore};
-use limits::marks::one;
 use machine::window::word_at;
 use place_marks::window::byte_of;
+use window_marks::marks::one;
 
 // Of the places before the window. Bits above the last place do not count.
 pub fn known_before(marks: u64) -> usize

@@ -5,7 +5,7 @@ use mathlib.Core.Bool.{Bool, true}
 use mathlib.Core.List.{List, [], _∷_, _++_}
 use native.Mathlib.Omega.{arith}
 use native.Mathlib.Decide.{decLt}
-use lib.Dec.{eqb, ltb}
+use lib.Dec.{eqb}
 use lib.ListN.{length, getD, take, drop, take-append-drop, drop-of-length-le, length-append, List·getD-append}
 use lib.Seq.{drop-cons, drop-drop, take-at, drop-at, getD-append-add}
 use borrow.Author.Tests.{lt-ltb, le-ltb, eqb-true, ltb-true}

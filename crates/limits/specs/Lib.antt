@@ -1,3 +1,2 @@
 -- When a call or a run is turned back.
 pub mod Limit
-pub mod Marks

@@ -1,3 +1,2 @@
-// When a call or a run is turned back: document 01's refusals, over numbers alone. The window marks have a file of their own.
+// When a call or a run is turned back: document 01's refusals, over numbers alone.
 pub mod limit;
-pub mod marks;

@@ -1,8 +1,8 @@
 // The refusals: of a window, of a plain run, of a watched run.
 ghost use mathlib.Core.Path.{_≡_};
 ghost use Rattle.limits.specs.Limit.{windowLimit, runLimit, watchLimit};
-ghost use Rattle.limits.specs.Marks.{onesOf};
-use super::marks::count_bits;
+ghost use Rattle.window_marks.specs.Marks.{onesOf};
+use window_marks::marks::count_bits;
 
 // The first of refusals 2, 3 and 4 that applies to a window of so many words, or 0.
 pub fn window_limit(base: u32, words: usize) -> u8

@@ -1,20 +1,12 @@
--- Numbers of registers and of places.
+-- Numbers of places.
 use mathlib.Core.Path.{_≡_}
 use mathlib.Core.Bool.{cond}
-use Prim.Native.Nat.{ℕ, _+_, _-_, _*_, _%_, _<_, _≤_}
+use Prim.Native.Nat.{ℕ, _-_, _<_, _≤_}
 use native.Mathlib.Omega.{arith}
 use native.Mathlib.Decide.{decLt}
 use lib.Dec.{ltb}
 use borrow.Author.Tests.{lt-ltb, le-ltb}
-use Rattle.machine.specs.Registers.{lowIndex, highIndex}
 use Rattle.machine.specs.Place.{single, core, word, flags, control, exc, nzcv, exceptions, number, place, before}
-
--- the words of a double, by the half of the index
-pub low-index : (n : ℕ) → n % 16 * 2 ≡ lowIndex n
-low-index n = omega arith
-
-pub high-index : (n : ℕ) → n % 16 * 2 + 1 ≡ highIndex n
-high-index n = omega arith
 
 -- the place of a number has that number
 pub number-place : (n : ℕ) → number (place n) ≡ n

@@ -6,7 +6,7 @@ use lib.Dec.{ltb}
 use lib.ListN.{getD, set}
 use Rattle.bits.specs.Psr.{nzcvOf, psrOf}
 use Rattle.machine.specs.declared.Machine.{Machine}
-use Rattle.machine.specs.Registers.{singleIndex, lowIndex, highIndex}
+use Rattle.registers.specs.Registers.{singleIndex, lowIndex, highIndex}
 use Rattle.machine.specs.Machine.{withS, withR, withFpscr, withFpexc, withCpsr}
 
 -- s0.., r0.., the window's words; FPSCR 31:28 and 27:5, FPEXC, NZCV, and the cumulative exception bits, FPSCR 4:0

@@ -1,7 +1,6 @@
-// The machine by value, its registers, and its window of memory.
+// The machine by value, and its window of memory.
 pub mod address;
 pub mod place;
-pub mod registers;
 pub mod window;
 
 ghost use mathlib.Core.Path.{_≡_};

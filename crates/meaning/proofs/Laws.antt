@@ -134,25 +134,9 @@ marked-then n each tail st μ x y d e = e ∙ ap (stepMarks tail) d
 
 -- ---- the place that a word hangs on
 
-pub clear-stop : (s : Stop) (st : State) (μ : Map) → clear ≡ hangOf (stop s) st μ
-unfolding hangOf
-clear-stop s st μ = refl
-
 pub clear-go : (a : Act) (st : State) (μ : Map) → clear ≡ hangOf (go a) st μ
 unfolding hangOf
 clear-go a st μ = refl
-
-pub clear-branch : (a : Act) (st : State) (μ : Map) → clear ≡ hangOf (branch a) st μ
-unfolding hangOf
-clear-branch a st μ = refl
-
-pub hang-known : (p : Place) (k : ℕ → Tree) (st : State) (μ : Map) (h : Hang) → known μ p ≡ true → h ≡ hangOf (k (get st p)) st μ → h ≡ hangOf (ask p k) st μ
-unfolding hangOf
-hang-known p k st μ h g e = rw g e
-
-pub hang-here : (p : Place) (k : ℕ → Tree) (st : State) (μ : Map) → known μ p ≡ false → at (number p) ≡ hangOf (ask p k) st μ
-unfolding hangOf
-hang-here p k st μ g = rw g
 
 -- ---- the runs, unrolled by one word of the list from i on
 

@@ -9,7 +9,7 @@ use lib.Dec.{eqb}
 use Rattle.bits.specs.Psr.{oneOf}
 use Rattle.machine.specs.Place.{Place, single, core, word, flags, control, exc, nzcv, exceptions, State, get, number}
 use Rattle.meaning.specs.Map.{Map, known, mark}
-use Rattle.meaning.specs.Step.{Step, Act, step, act, allKnown, markAll, stepMarks, afterMarks, actMarks}
+use Rattle.meaning.specs.Step.{Step, Act, step, allKnown, markAll, stepMarks, afterMarks, actMarks}
 use Rattle.meaning.specs.Stop.{hangs}
 use Rattle.meaning.specs.Tree.{Tree, stop, go, branch, ask, Next, on, last, halt, Seen, seen, watched}
 use Rattle.meaning.specs.Run.{advance, Watched, followWith, watch}

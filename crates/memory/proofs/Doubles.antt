@@ -5,7 +5,7 @@ use mathlib.Core.List.{_++_}
 use Prim.Native.Nat.{ℕ, zero, suc, _+_, _*_, _%_, _^_}
 use native.Mathlib.Omega.{arith}
 use lib.Ieee.{Format, binary32, binary64}
-use Rattle.machine.specs.Registers.{singleIndex, lowIndex, highIndex}
+use Rattle.registers.specs.Registers.{singleIndex, lowIndex, highIndex}
 use Rattle.machine.specs.Place.{State}
 use Rattle.meaning.specs.Step.{Step, step, after}
 use Rattle.meaning.proofs.Laws.{after-one}

@@ -6,9 +6,9 @@ use Prim.Native.Nat.{ℕ, _+_, _-_, _*_, _%_, _^_, _<_}
 use native.Mathlib.Omega.{arith}
 use lib.Ieee.{Format, binary32, binary64}
 use Rattle.bits.specs.Field.{field, bitOf}
-use Rattle.machine.specs.Registers.{singleIndex, lowIndex, highIndex, regOf}
+use Rattle.registers.specs.Registers.{singleIndex, lowIndex, highIndex, regOf}
 use Rattle.machine.specs.Place.{core, State, get}
-use Rattle.meaning.specs.Step.{Step, step, after, grow}
+use Rattle.meaning.specs.Step.{Step, step, grow}
 use Rattle.meaning.specs.Tree.{on, out, plain}
 use Rattle.meaning.proofs.Laws.{after-none, after-one}
 use Rattle.addresses.specs.Address.{offset, oneOnly, countOf, startOf, writeBack}

@@ -7,7 +7,7 @@ use lib.Dec.{eqb}
 use lib.Ieee.{Format, binary32, binary64}
 use borrow.Author.Tests.{ne-eqb}
 use Rattle.bits.specs.Field.{field, bitOf}
-use Rattle.machine.specs.Registers.{regOf}
+use Rattle.registers.specs.Registers.{regOf}
 use Rattle.machine.specs.Place.{core, State, get}
 use Rattle.meaning.specs.Step.{step, after, nothing}
 use Rattle.meaning.specs.Tree.{go, on, out, plain}

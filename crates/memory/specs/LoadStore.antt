@@ -5,7 +5,7 @@ use mathlib.Core.List.{[], _∷_}
 use lib.Dec.{eqb}
 use lib.Ieee.{Format, binary32, binary64}
 use Rattle.bits.specs.Field.{field, bitOf}
-use Rattle.machine.specs.Registers.{regOf}
+use Rattle.registers.specs.Registers.{regOf}
 use Rattle.machine.specs.Window.{wordAt}
 use Rattle.machine.specs.Place.{core, word, sWord, lowWord, highWord}
 use Rattle.meaning.specs.Step.{Step, Act, once, nothing}

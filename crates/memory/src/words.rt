@@ -14,15 +14,15 @@ ghost use Rattle.memory.specs.LoadStore.{accessStep, accessAt};
 use addresses::contiguous::is_contiguous;
 use bits::field::bit;
 use machine::address::plus;
-use machine::registers::Single;
-use machine::registers::get_single;
-use machine::registers::set_single;
 use machine::window::read32;
 use machine::window::word_at;
 use machine::window::write32;
+use registers::registers::Single;
+use registers::registers::get_single;
+use registers::registers::set_single;
 
 // By bit 20 of the word a load or a store.
-pub(crate) fn move_words(
+pub fn move_words(
     s: &mut [u32; 32],
     window: &mut [u32],
     base: u32,

@@ -1,4 +1,2 @@
 -- The crate's laws that belong to no one function. Assumes nothing.
-pub mod Flags
 pub mod Applying
-pub mod Values

@@ -1,4 +1,3 @@
-// Arithmetic and comparison on register words.
+// Arithmetic on register words at nearest even.
 // The control word is FPSCR, of which only bit 24 is looked at.
 pub mod arithmetic;
-pub mod compare;

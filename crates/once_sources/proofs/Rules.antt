@@ -5,9 +5,9 @@ use mathlib.Core.List.{[], _∷_}
 use lib.Ieee.{Format, binary32, binary64}
 use Rattle.machine.specs.Place.{flags, control, number}
 use Rattle.short_vectors.specs.Register.{wordsOf}
-use Rattle.steps.specs.Compare.{compareStep, compareZeroStep}
-use Rattle.conversions.specs.Width.{widenStep, narrowStep}
-use Rattle.conversions.specs.Integer.{fromStep, truncateStep, roundStep}
+use Rattle.compare_steps.specs.Compare.{compareStep, compareZeroStep}
+use Rattle.width_steps.specs.Width.{widenStep, narrowStep}
+use Rattle.integer_steps.specs.Integer.{fromStep, truncateStep, roundStep}
 use Rattle.sources.specs.Rule.{Rule}
 use Rattle.step_sources.proofs.Writes.{flags-rule, single-rule, double-rule}
 

@@ -1,17 +1,17 @@
 // One step back through a word of one step: compares and conversions, by the precision.
 ghost use lib.Ieee.{binary32, binary64};
 ghost use mathlib.Core.Bool.{Bool};
-ghost use Rattle.conversions.specs.Integer.{fromStep, truncateStep, roundStep};
-ghost use Rattle.conversions.specs.Width.{widenStep, narrowStep};
-ghost use Rattle.decoding.specs.Fields.{regD, regM};
+ghost use Rattle.integer_steps.specs.Integer.{fromStep, truncateStep, roundStep};
+ghost use Rattle.width_steps.specs.Width.{widenStep, narrowStep};
+ghost use Rattle.register_fields.specs.Fields.{regD, regM};
 ghost use Rattle.short_vectors.specs.Vector.{precision};
 ghost use Rattle.sources.specs.Source.{Tracing};
-ghost use Rattle.steps.specs.Compare.{compareStep, compareZeroStep};
-use decoding::fields::double_d;
-use decoding::fields::double_m;
-use decoding::fields::single_d;
-use decoding::fields::single_m;
+ghost use Rattle.compare_steps.specs.Compare.{compareStep, compareZeroStep};
 use machine::place::FLAGS;
+use register_fields::fields::double_d;
+use register_fields::fields::double_m;
+use register_fields::fields::single_d;
+use register_fields::fields::single_m;
 use sources::Source;
 use sources::rule::source_of;
 use step_sources::unknown::of_control;

@@ -2,7 +2,7 @@
 use mathlib.Core.Path.{_≡_, refl, sym, ap, _∙_, subst}
 use mathlib.Core.Logic.{inl, inr}
 use mathlib.Core.Bool.{Bool, true, false, _&&_, cond}
-use Prim.Native.Nat.{ℕ, zero, _+_, _-_, _*_, _/_, _%_, _^_, _≤_, _<_}
+use Prim.Native.Nat.{ℕ, _+_, _-_, _*_, _/_, _%_, _^_, _≤_, _<_}
 use native.Mathlib.Nat.{div-one, mod-one, div-add-mod', mul-pos, zero-mul, min-eq-left, add-zero}
 use native.Mathlib.Omega.{arith}
 use native.Mathlib.Decide.{decLt}
@@ -13,7 +13,7 @@ use lib.Pow.{pow-pos}
 use lib.Ieee.{Float, nan, inf, fin, Format, binary32, binary64, prec, low, hid, ones, top, ofBits, toBits}
 use lib.Ieee.Bits.{nanBits-above}
 use lib.Ieee.Exact.{HasValue}
-use Rattle.rounding.specs.Rounding.{cutTo, rounded, tiny}
+use Rattle.rounding.specs.Rounding.{cutTo, tiny}
 use Rattle.packing.specs.Pack.{packed, ceiling, IsSettled}
 use Rattle.rounding.specs.declared.rounding.Rounding.{Rounding}
 use Rattle.floats.proofs.Units.{Lead, sign-bit, reads-low, reads-normal, reads-zero, reads-inf}
@@ -156,9 +156,6 @@ zero-settles mode f s num den D e =
 
     none : (f : Format) → tiny f (0 * 2 ^ 0) (2 ^ low f) ≡ false
     none f = tiny-none f (0 * 2 ^ 0) (2 ^ low f) (zero-mul (2 ^ 0))
-
-pub zero-bits : (mode : Rounding) (f : Format) (s : Bool) (num den : ℕ) → 0 < den → num ≡ 0 → toBits f (rounded mode f s num den) ≡ cond s (top f) 0
-zero-bits mode f s num den D e = sym (zero-settles mode f s num den D e .bits-are)
 
 pub zero-size : (f : Format) (b : ℕ) → b % top f ≡ 0 → HasValue (ofBits f b) (leb (top f) b) 0 1
 zero-size f b z = subst (λ (v : Float). HasValue v (leb (top f) b) 0 1) (sym (reads-zero f b z)) (refl, refl)

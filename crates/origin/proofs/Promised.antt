@@ -22,7 +22,7 @@ use Rattle.watch.proofs.Demanded.{mapped, within}
 use Rattle.walk_back.specs.Refusal.{originRefusal}
 use Rattle.walk_back.specs.Given.{Given}
 use Rattle.watch.proofs.Promised.{promised, word-promised}
-use Rattle.origin.specs.Origin.{Nothing, OriginPromise}
+use Rattle.origin.specs.Origin.{OriginPromise}
 
 module _ (base : ℕ) (list : List ℕ) (st : State) (μ : Map) (q : ℕ) (x : Reply) (l : List ℕ) where
   -- a refused run

@@ -6,7 +6,7 @@ ghost use Rattle.known_places.specs.Count.{knownPlaces};
 ghost use Rattle.watch.specs.Watch.{answered};
 ghost use Rattle.watch.specs.Promise.{Promise, WordPromise};
 ghost use Rattle.origin.specs.Origin.{OriginPromise};
-use decoding::table::operations;
+use decode_table::table::operations;
 use limits::limit::watch_limit;
 use machine::Machine;
 use walk_back::refusal::origin_refusal;

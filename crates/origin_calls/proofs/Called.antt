@@ -2,12 +2,12 @@
 use Prim.Native.Nat.{ℕ, _+_, _*_, _/_, _%_, _^_, _≤_, _<_}
 use native.Mathlib.Omega.{arith}
 use native.Mathlib.Decide.{ℕ-discrete}
-use mathlib.Core.Path.{_≡_, refl, ap, sym, _∙_, subst}
-use mathlib.Core.Bool.{Bool, true, false, not, cond, _&&_, true≢false}
+use mathlib.Core.Path.{_≡_, refl, ap, sym, _∙_}
+use mathlib.Core.Bool.{Bool, true, false, not, cond, true≢false}
 use mathlib.Core.List.{List, [], _∷_, _++_}
 use lib.Dec.{eqb, ltb}
 use lib.ListN.{length, take, length-take}
-use borrow.Author.Tests.{eq-eqb, eqb-true, not-true, not-false}
+use borrow.Author.Tests.{eqb-true, not-true, not-false}
 use Rattle.machine.specs.declared.Machine.{Machine}
 use Rattle.machine.specs.Place.{State, state, before, place}
 use Rattle.meaning.specs.Map.{Map, known}
@@ -26,13 +26,12 @@ use Rattle.layout.specs.State.{encode, decode, Valid, valid}
 use Rattle.layout.proofs.Both.{fst, snd}
 use Rattle.layout.proofs.Words.{valid-facts}
 use Rattle.answer.specs.Answer.{answerOf}
-use Rattle.outcomes.specs.Outcome.{invalidArgument, validCall, decodedState}
-use Rattle.outcomes.specs.WatchOutcome.{watchOutcome}
+use Rattle.outcomes.specs.Outcome.{invalidArgument, validCall}
 use Rattle.outcomes.proofs.Watches.{has-watched}
 use Rattle.walk_back.specs.Refusal.{originRefusal}
 use Rattle.origin.specs.Origin.{OriginPromise}
 use Rattle.origin_calls.specs.Outcome.{originOutcome, validOrigin, refusalWord}
-use Rattle.origin_calls.specs.Promise.{OriginCalled, OriginCallPromise}
+use Rattle.origin_calls.specs.Promise.{OriginCallPromise}
 
 module _ (base : ℕ) (list l : List ℕ) (m : ℕ) (w v : List ℕ) (thumb q : ℕ) (p a : List ℕ) (b : Bool) (u : b ≡ validOrigin l thumb (length a) (length p)) where
   -- 255

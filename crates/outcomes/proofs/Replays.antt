@@ -1,15 +1,15 @@
 -- From what the replay of a record promises to what its exported function leaves and promises.
 use Prim.Native.Nat.{ℕ, _≤_}
 use native.Mathlib.Omega.{arith}
-use mathlib.Core.Path.{_≡_, refl, ap, sym, subst, _∙_}
-use mathlib.Core.Bool.{Bool, true, false, not, cond, _&&_, true≢false}
+use mathlib.Core.Path.{_≡_, refl, sym, subst, _∙_}
+use mathlib.Core.Bool.{Bool, true, false, not, cond, true≢false}
 use mathlib.Core.List.{List}
 use lib.Dec.{eqb}
 use lib.ListN.{length, take, drop}
 use borrow.Author.Tests.{not-true, not-false, eqb-true}
 use Rattle.machine.specs.Machine.{newMachine}
 use Rattle.machine.specs.Place.{state, before}
-use Rattle.place_marks.specs.Word.{mapIn, wordOf}
+use Rattle.place_marks.specs.Word.{mapIn}
 use Rattle.place_marks.proofs.Word.{word-marks, words-in}
 use Rattle.meaning.specs.Stop.{report, refused}
 use Rattle.run_word.specs.Stop.{stopOf}
@@ -17,7 +17,7 @@ use Rattle.layout.specs.State.{encode, decode, valid}
 use Rattle.layout.proofs.Both.{fst, snd}
 use Rattle.watch.specs.declared.Watched.{Watched}
 use Rattle.watch.specs.Watch.{Reply, answered, watchReply}
-use Rattle.limits.specs.Marks.{bitsOnly}
+use Rattle.window_marks.specs.Marks.{bitsOnly}
 use Rattle.records.specs.Recorded.{ofBytes, wordOfMarks}
 use Rattle.record_refusal.specs.Refusal.{stateIn, mapOf, wellFormed, refusalOf}
 use Rattle.replay.specs.Replay.{replayReply}

@@ -7,7 +7,7 @@ use lib.ListN.{length-set}
 use Rattle.machine.specs.Machine.{Sized}
 use Rattle.machine.specs.Place.{Place, single, core, word, flags, control, exc, nzcv, exceptions, State, get, put, number}
 use Rattle.meaning.specs.Map.{Map, known, mark}
-use Rattle.meaning.specs.Step.{Step, Act, stored, putAll, step, after, act, allKnown, markAll, stepMarks, afterMarks, actMarks}
+use Rattle.meaning.specs.Step.{Step, Act, stored, putAll, step, after, act, allKnown, markAll, afterMarks, actMarks}
 use Rattle.meaning.specs.Stop.{hangs}
 use Rattle.meaning.specs.Tree.{Tree, stop, go, branch, ask, Next, on, last, halt, seen, watched}
 use Rattle.meaning.specs.Run.{advance, Watched, followWith, watch}

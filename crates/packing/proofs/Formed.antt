@@ -1,10 +1,10 @@
 -- What is rounded has the form c * 2 ^ k of the format's smallest values. So its word has a bound, and is no subnormal's where its size is a normal value's. Over the mode and the format.
 -- Assumes nothing.
-use mathlib.Core.Path.{_≡_, refl, sym, ap, _∙_, subst}
+use mathlib.Core.Path.{_≡_, sym, ap, _∙_, subst}
 use mathlib.Core.Logic.{inl, inr}
 use mathlib.Core.Bool.{Bool, true, false, cond}
-use Prim.Native.Nat.{ℕ, _+_, _-_, _*_, _/_, _%_, _^_, _≤_, _<_, min, zero-le}
-use native.Mathlib.Nat.{le-trans, le-of-eq, lt-of-le-of-lt, lt-of-not-le, le-of-suc-le-suc, mul-one, zero-mul, mul-pos, div-one, div-div-eq-div-mul, le-div-iff-mul-le, mod-eq-of-lt, add-mod-left, zero-add, zero-lt-suc, min-eq-left}
+use Prim.Native.Nat.{ℕ, _+_, _-_, _*_, _/_, _%_, _^_, _≤_, _<_, min}
+use native.Mathlib.Nat.{le-trans, le-of-eq, lt-of-le-of-lt, lt-of-not-le, le-of-suc-le-suc, div-one, div-div-eq-div-mul, le-div-iff-mul-le, mod-eq-of-lt, add-mod-left, zero-add}
 use native.Mathlib.Decide.{decLt}
 use native.Mathlib.Omega.{arith}
 use lib.Dec.{lit≤, lit<}
@@ -15,9 +15,9 @@ use lib.Ieee.Fits.{kept-lt}
 use Rattle.rounding.specs.Rounding.{cutTo, dropped, rounded}
 use Rattle.packing.specs.Pack.{ceiling, packed}
 use Rattle.rounding.specs.declared.rounding.Rounding.{Rounding}
-use Rattle.floats.proofs.Units.{Lead, hid-pos, prec-pos}
-use Rattle.rounding.proofs.Cutting.{move-ge, move-le, cut-exact}
-use Rattle.packing.proofs.Written.{settled-bits, rounded-bits, ceiling-le, ceiling-ge}
+use Rattle.floats.proofs.Units.{Lead, prec-pos}
+use Rattle.rounding.proofs.Cutting.{move-ge, move-le}
+use Rattle.packing.proofs.Written.{settled-bits, ceiling-le, ceiling-ge}
 use Rattle.floats.proofs.Flushing.{NotSubnormal}
 
 -- ---- the digits that are kept of a whole part w
@@ -112,21 +112,3 @@ module _ (mode : Rounding) (f : Format) (s : Bool) (num den : ℕ) (D : 0 < den)
         | inr g ↦ inr (le-trans (subst (λ (x : ℕ). hid f ≤ x) whole g) (move-ge mode s (n / (den * 2 ^ k)) _ _))
       ] in
       (most, lead, settled-bits mode f s c k most lead)
-
-  pub rounded-lt : toBits f (rounded mode f s num den) < 2 * top f
-  rounded-lt = subst (λ (x : ℕ). x < 2 * top f) (sym (rounded-word .2)) (packed-lt mode f s k c)
-
-  pub rounded-normal : hid f * den ≤ num * 2 ^ low f → NotSubnormal f (toBits f (rounded mode f s num den))
-  rounded-normal h =
-      subst (NotSubnormal f) (sym (rounded-word .2))
-      (packed-normal mode f s k c
-      (le-trans (subst (λ (x : ℕ). hid f ≤ x) whole (keeps f (n / den) (le-div-iff-mul-le D .1 h))) (move-ge mode s (n / (den * 2 ^ k)) _ _)))
-
-pub rounded-zero : (mode : Rounding) (f : Format) (s : Bool) (num den : ℕ) → 0 < den → num ≡ 0 → NotSubnormal f (toBits f (rounded mode f s num den))
-rounded-zero mode f s num den D e = inl (subst (λ (x : ℕ). x % top f ≡ 0) (sym is) (word-rest f s 0 (mul-pos (hid-pos f) (zero-lt-suc (ones f)))))
-  where
-    is : toBits f (rounded mode f s num den) ≡ cond s (top f) 0 + 0
-    is =
-        rounded-bits mode f s num den 0 0 1 D (lit< tt) (mul-one (num * 2 ^ low f) ∙ ap (λ (x : ℕ). x * 2 ^ low f) e ∙ zero-mul (2 ^ low f) ∙ sym (zero-mul (den * 2 ^ 0))) (pow-pos (prec f)) (inl refl)
-        ∙ ap (packed mode f s 0) (cut-exact mode s 0 1 (lit< tt) refl)
-        ∙ ap (λ (x : ℕ). cond s (top f) 0 + x) (ap (λ (x : ℕ). min (x + 0 / 1) (ceiling mode f s)) (zero-mul (hid f)) ∙ min-eq-left {m = ceiling mode f s} zero-le)

@@ -12,13 +12,13 @@ use addresses::halves::high_word;
 use addresses::halves::low_word;
 use bits::field::bit;
 use bits::field::bits;
-use machine::registers::Single;
-use machine::registers::dreg;
-use machine::registers::sreg;
-use place_marks::registers::core_known;
-use place_marks::registers::mark_core;
-use place_marks::registers::mark_single;
-use place_marks::registers::single_known;
+use register_marks::register::core_known;
+use register_marks::register::mark_core;
+use register_marks::register::mark_single;
+use register_marks::register::single_known;
+use registers::registers::Single;
+use registers::registers::dreg;
+use registers::registers::sreg;
 
 pub fn mark_pair(marks: u64, op: u32, double: bool) -> u64
     ensures { λ y. ⌜ ((w : List ℕ) → mapIn y w ≡ stepMarks (pairStep (formatOf double) op) (mapIn marks w)) ⌝ }

@@ -4,7 +4,7 @@ use mathlib.Core.Bool.{Bool, true, false}
 use mathlib.Core.List.{[], _∷_}
 use lib.Ieee.{Format, binary32, binary64}
 use Rattle.bits.specs.Field.{field, bitOf}
-use Rattle.machine.specs.Registers.{sregOf, dregOf}
+use Rattle.registers.specs.Registers.{sregOf, dregOf}
 use Rattle.machine.specs.Place.{Place, core, sWord, lowWord, highWord}
 use Rattle.meaning.specs.Step.{Write, Step, copy}
 

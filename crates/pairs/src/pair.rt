@@ -13,11 +13,11 @@ use addresses::halves::high_word;
 use addresses::halves::low_word;
 use bits::field::bit;
 use bits::field::bits;
-use machine::registers::Single;
-use machine::registers::dreg;
-use machine::registers::get_single;
-use machine::registers::set_single;
-use machine::registers::sreg;
+use registers::registers::Single;
+use registers::registers::dreg;
+use registers::registers::get_single;
+use registers::registers::set_single;
+use registers::registers::sreg;
 
 pub fn move_pair(s: &mut [u32; 32], r: &mut [u32; 16], op: u32, double: bool)
     ensures { λ _. ⌜ ((q : Machine) (v : List ℕ) → state (withS (withR q (now (r .exit))) (now (s .exit))) v ≡ step (pairStep (formatOf double) op) (state (withS (withR q (now (r .entry))) (now (s .entry))) v)) ⌝ }

@@ -8,9 +8,9 @@ use mathlib.Core.Logic.{_⊎_, inl, inr, ⊎-elim}
 use lib.ListN.{length, getD, set, length-set}
 use lib.Seq.{getD-set-same, getD-set-other, set-getD, ext-getD}
 use borrow.Author.Tests.{lt-ltb, le-ltb}
-use Rattle.phases.specs.Round.{sum, turn, turns, rounds}
+use Rattle.phases.specs.Round.{sum, turns, rounds}
 use Rattle.phases.specs.Phase.{extra, raised, roomy, narrowed, leastRoom, Fitting}
-use Rattle.phases.proofs.Turns.{below-or-not, sum-set, extra-some, extra-none, turn-is, sum-turns, length-turns, turns-later, no-room, rounds-still, enough, rounds-add}
+use Rattle.phases.proofs.Turns.{below-or-not, sum-set, extra-some, extra-none, turn-is, sum-turns, turns-later, no-room, rounds-still, enough, rounds-add}
 
 module _ (most : ℕ → ℕ) where
   pub length-raised : (k n : ℕ) (g : List ℕ) → length (raised k most n g) ≡ length g
@@ -129,16 +129,6 @@ module _ (most : ℕ → ℕ) where
   narrowed-none : (k g m : ℕ) → m ≤ g → narrowed k g m ≡ k
   unfolding narrowed
   narrowed-none k g m h = rw (le-ltb g m h)
-
-  pub least-positive : (n : ℕ) (g : List ℕ) → 1 ≤ leastRoom most n g
-  unfolding leastRoom
-  least-positive zero g = omega arith
-  least-positive (suc n) g =
-      let k = leastRoom most n g in
-      ⊎-elim
-      (λ r. omega (arith, least-positive n g, narrowed-some k (getD g n 0) (most n) r))
-      (λ r. omega (arith, least-positive n g, narrowed-none k (getD g n 0) (most n) r))
-      (below-or-not (getD g n 0) (most n))
 
   pub least-fits : (n : ℕ) (g : List ℕ) (i : ℕ) → i < n → getD g i 0 < most i → getD g i 0 + leastRoom most n g ≤ most i
   unfolding leastRoom

@@ -3,5 +3,4 @@
 pub mod Within
 pub mod Places
 pub mod Word
-mod Replaced
-mod Doubles
+pub mod Replaced

@@ -1,7 +1,7 @@
 -- Bits of a word replaced by a mask: the code's one expression for one mark and for a double's two.
-use mathlib.Core.Path.{_≡_, refl, sym, ap, ap₂, _∙_}
-use mathlib.Core.Bool.{Bool, true, false, _&&_}
-use Prim.Native.Nat.{ℕ, zero, suc, _+_, _-_, _*_, _/_, _%_, _^_, _<_, _≤_, min, max}
+use mathlib.Core.Path.{_≡_, sym, ap, ap₂, _∙_}
+use mathlib.Core.Bool.{Bool}
+use Prim.Native.Nat.{ℕ, zero, suc, _+_, _-_, _*_, _/_, _%_, _^_, _<_, _≤_}
 use native.Mathlib.Omega.{arith}
 use native.Mathlib.Nat.{pow-suc, mul-assoc, mul-one, min-zero, max-zero, add-zero, zero-add, zero-mul, div-add-mod'}
 use lib.Pow.{pow-pos, shl-exact}
@@ -9,7 +9,7 @@ use lib.Dec.{eqb, lit<}
 use lib.Bits.{bitAnd, bitOr, and-step, or-step, and-le-l, and-mask, or-zero-r, or-block}
 use Rattle.bits.specs.Psr.{oneOf}
 use Rattle.machine.specs.Place.{before}
-use Rattle.machine.specs.Registers.{lowIndex}
+use Rattle.registers.specs.Registers.{lowIndex}
 use Rattle.place_marks.specs.Word.{withBit}
 use Rattle.place_marks.proofs.Word.{half, odd, one-lt, bit-value}
 

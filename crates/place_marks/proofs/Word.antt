@@ -1,10 +1,9 @@
 -- The laws of the word of marks: what a place's bit is, what setting it does to the map, and that the bits above the last place say nothing.
 use mathlib.Core.Path.{_≡_, refl, sym, ap, ap₂, _∙_}
-use mathlib.Core.Bool.{Bool, true, false, cond}
+use mathlib.Core.Bool.{Bool, true, false}
 use mathlib.Core.List.{List, [], _∷_, _++_}
-use Prim.Native.Nat.{ℕ, zero, suc, _+_, _-_, _*_, _/_, _%_, _^_, _<_, _≤_}
+use Prim.Native.Nat.{ℕ, zero, suc, _+_, _*_, _/_, _%_, _^_, _<_, _≤_}
 use native.Mathlib.Omega.{arith}
-use native.Mathlib.Decide.{decLt}
 use native.Mathlib.Nat.{pow-suc, mul-comm, div-div-eq-div-mul, div-one, mod-one}
 use native.Mathlib.Numerals.{add-one}
 use lib.Dec.{eqb}
@@ -14,7 +13,7 @@ use lib.ListN.{length, getD, set, take, drop, length-append}
 use lib.Seq.{take-at, drop-at, getD-append-add}
 use Rattle.bits.specs.Field.{bitOf}
 use Rattle.bits.specs.Psr.{oneOf}
-use Rattle.machine.specs.Place.{place, before, number, single, core, word, flags, control, exc, nzcv, exceptions}
+use Rattle.machine.specs.Place.{place, before, word}
 use Rattle.meaning.specs.Map.{Marks, known, mark, mapOf}
 use Rattle.place_marks.specs.Word.{bitsFrom, marksOf, mapIn, numberOf, wordOf, withBit}
 use Rattle.place_marks.proofs.Places.{place-single, place-core, place-flags, place-control, place-exc, place-nzcv, place-exceptions, by-number}

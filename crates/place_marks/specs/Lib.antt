@@ -1,3 +1,2 @@
 -- The word of marks.
 pub mod Word
-pub mod Register

@@ -11,20 +11,20 @@ use Rattle.machine.specs.Machine.{withFpscr}
 use Rattle.numbers.specs.declared.arithmetic.Arithmetic.{Arithmetic}
 use Rattle.meaning.specs.Step.{Step, once}
 use Rattle.meaning.specs.Tree.{go}
-use Rattle.steps.specs.declared.sign.SignOperation.{SignOperation}
-use Rattle.steps.specs.declared.sign.SignOperation.the-variants.{Copy, Absolute, Negate}
+use Rattle.sign_steps.specs.declared.sign.SignOperation.{SignOperation}
+use Rattle.sign_steps.specs.declared.sign.SignOperation.the-variants.{Copy, Absolute, Negate}
 use Rattle.short_vectors.specs.Vector.{iterationsOf, monadicStep}
 use Rattle.short_vectors.specs.Register.{SteppedWith, Iterated, IteratedWith}
 use Rattle.arithmetic_steps.specs.Arithmetic.{dyadicStep}
-use Rattle.steps.specs.Sign.{signStep}
-use Rattle.steps.specs.Root.{rootStep}
-use Rattle.steps.specs.Compare.{compareStep, compareZeroStep}
-use Rattle.conversions.specs.Width.{widenStep, narrowStep}
-use Rattle.conversions.specs.Integer.{fromStep, truncateStep, roundStep}
+use Rattle.sign_steps.specs.Sign.{signStep}
+use Rattle.root_steps.specs.Root.{rootStep}
+use Rattle.compare_steps.specs.Compare.{compareStep, compareZeroStep}
+use Rattle.width_steps.specs.Width.{widenStep, narrowStep}
+use Rattle.integer_steps.specs.Integer.{fromStep, truncateStep, roundStep}
 use Rattle.decoding.specs.declared.operation.Operation.{Operation}
 use Rattle.decoding.specs.declared.operation.Operation.the-variants.{Fcpy, Fabs, Fneg, Fsqrt, Fcmp, Fcmpe, Fcmpz, Fcmpez, Fcvt, Fuito, Fsito, Ftoui, Ftouiz, Ftosi, Ftosiz}
 use Rattle.decoding.specs.declared.operation.Operation.the-variants as O
-use Rattle.decoding.specs.Fields.{regD, regN, regM}
+use Rattle.register_fields.specs.Fields.{regD, regN, regM}
 use Rattle.decoding.specs.Operation.{operationNumbered, arithmeticOf}
 use Rattle.decoding.proofs.operation.Operation.{the-type}
 use Rattle.decoding.proofs.Named.{one-of}

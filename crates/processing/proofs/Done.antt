@@ -16,7 +16,7 @@ use Rattle.processing.specs.declared.Processed.{Processed}
 use Rattle.processing.specs.declared.Processed.the-variants.{Done, Undefined}
 use Rattle.short_vectors.specs.Vector.{iterationsOf, monadicStep}
 use Rattle.short_vectors.specs.Register.{SteppedWith, IteratedWith}
-use Rattle.decoding.specs.Fields.{regD, regN, regM}
+use Rattle.register_fields.specs.Fields.{regD, regN, regM}
 use Rattle.arithmetic_steps.specs.Arithmetic.{dyadicStep}
 use Rattle.processing.specs.Data.{stepping, dyadic, monadic, undefinedTree, dataTree, wordTree, Handled}
 

@@ -14,15 +14,15 @@ use Rattle.numbers.specs.declared.arithmetic.Arithmetic.the-variants.{MultiplyA
 use Rattle.meaning.specs.Step.{Step, once}
 use Rattle.meaning.specs.Stop as Stop
 use Rattle.meaning.specs.Tree.{Tree, stop, go, ask, out, on, plain}
-use Rattle.steps.specs.declared.sign.SignOperation.the-variants.{Copy, Absolute, Negate}
+use Rattle.sign_steps.specs.declared.sign.SignOperation.the-variants.{Copy, Absolute, Negate}
 use Rattle.short_vectors.specs.Vector.{iterationsOf, monadicStep}
 use Rattle.arithmetic_steps.specs.Arithmetic.{dyadicStep}
-use Rattle.steps.specs.Sign.{signStep}
-use Rattle.steps.specs.Root.{rootStep}
-use Rattle.steps.specs.Compare.{compareStep, compareZeroStep}
-use Rattle.conversions.specs.Width.{widenStep, narrowStep}
-use Rattle.conversions.specs.Integer.{fromStep, truncateStep, roundStep}
-use Rattle.decoding.specs.Fields.{regD, regN, regM}
+use Rattle.sign_steps.specs.Sign.{signStep}
+use Rattle.root_steps.specs.Root.{rootStep}
+use Rattle.compare_steps.specs.Compare.{compareStep, compareZeroStep}
+use Rattle.width_steps.specs.Width.{widenStep, narrowStep}
+use Rattle.integer_steps.specs.Integer.{fromStep, truncateStep, roundStep}
+use Rattle.register_fields.specs.Fields.{regD, regN, regM}
 use Rattle.decoding.specs.declared.operation.Operation.the-variants as O
 use Rattle.decoding.specs.declared.operation.Operation.{Operation}
 use Rattle.decoding.specs.Operation.{operationOf}

@@ -13,18 +13,18 @@ use Rattle.meaning.specs.Step.{Step, once}
 use Rattle.meaning.specs.Tree.{Tree, go}
 use Rattle.meaning.proofs.Laws.{marked-ask, marked-family, marked-once, marked-stop}
 use Rattle.numbers.specs.declared.arithmetic.Arithmetic.{Arithmetic}
-use Rattle.steps.specs.declared.sign.SignOperation.{SignOperation}
-use Rattle.steps.specs.declared.sign.SignOperation.the-variants.{Copy, Absolute, Negate}
+use Rattle.sign_steps.specs.declared.sign.SignOperation.{SignOperation}
+use Rattle.sign_steps.specs.declared.sign.SignOperation.the-variants.{Copy, Absolute, Negate}
 use Rattle.short_vectors.specs.Vector.{iterationsOf, monadicStep}
 use Rattle.arithmetic_steps.specs.Arithmetic.{dyadicStep}
-use Rattle.steps.specs.Sign.{signStep}
-use Rattle.steps.specs.Root.{rootStep}
-use Rattle.steps.specs.Compare.{compareStep, compareZeroStep}
-use Rattle.conversions.specs.Integer.{fromStep, truncateStep, roundStep}
+use Rattle.sign_steps.specs.Sign.{signStep}
+use Rattle.root_steps.specs.Root.{rootStep}
+use Rattle.compare_steps.specs.Compare.{compareStep, compareZeroStep}
+use Rattle.integer_steps.specs.Integer.{fromStep, truncateStep, roundStep}
 use Rattle.decoding.specs.declared.operation.Operation.{Operation}
 use Rattle.decoding.specs.declared.operation.Operation.the-variants.{Fsqrt, Fcvt}
 use Rattle.decoding.specs.declared.operation.Operation.the-variants as O
-use Rattle.decoding.specs.Fields.{regD, regN, regM}
+use Rattle.register_fields.specs.Fields.{regD, regN, regM}
 use Rattle.decoding.specs.Operation.{numberOf, operationNumbered, arithmeticOf}
 use Rattle.decoding.proofs.operation.Operation.{the-type}
 use Rattle.decoding.proofs.Named.{each, one-of}

@@ -4,24 +4,24 @@ use mathlib.Core.Path.{_≡_, refl, ap, _∙_}
 use mathlib.Core.Bool.{Bool, true, false, cond, _&&_}
 use mathlib.Core.List.{List, [], _∷_, _++_}
 use lib.Ieee.{Format, binary32, binary64}
-use Rattle.machine.specs.Place.{Place, sWord, lowWord, highWord, flags, control, exceptions}
+use Rattle.machine.specs.Place.{Place, lowWord, highWord, flags, control, exceptions}
 use Rattle.meaning.specs.Map.{Map, known, mark}
 use Rattle.meaning.specs.Step.{Step, allKnown, stepMarks}
 use Rattle.meaning.proofs.Laws.{marks-none, marks-one}
 use Rattle.numbers.specs.Arithmetic.{accumulates}
 use Rattle.numbers.specs.declared.arithmetic.Arithmetic.{Arithmetic}
-use Rattle.steps.specs.declared.sign.SignOperation.{SignOperation}
+use Rattle.sign_steps.specs.declared.sign.SignOperation.{SignOperation}
 use Rattle.short_vectors.specs.Register.{wordsOf, written}
-use Rattle.steps.specs.Sign.{signStep}
+use Rattle.sign_steps.specs.Sign.{signStep}
 use Rattle.arithmetic_steps.specs.Arithmetic.{operands, arithmeticStep}
-use Rattle.steps.specs.Root.{rootStep}
-use Rattle.steps.specs.Compare.{compareStep, compareZeroStep}
-use Rattle.conversions.specs.Width.{widenStep, narrowStep}
-use Rattle.conversions.specs.Integer.{fromStep, truncateStep, roundStep}
-use Rattle.decoding.specs.Fields.{regD, regM}
+use Rattle.root_steps.specs.Root.{rootStep}
+use Rattle.compare_steps.specs.Compare.{compareStep, compareZeroStep}
+use Rattle.width_steps.specs.Width.{widenStep, narrowStep}
+use Rattle.integer_steps.specs.Integer.{fromStep, truncateStep, roundStep}
+use Rattle.register_fields.specs.Fields.{regD, regM}
 use Rattle.short_vectors.specs.Vector.{precision}
 use Rattle.short_vectors.proofs.Loop.{Repeats}
-use Rattle.place_marks.specs.Register.{knownIn, markIn, copyIn}
+use Rattle.register_marks.specs.Register.{knownIn, markIn}
 use Rattle.processing_marks.specs.Marked.{MarksStepped, MarksIterated, Copies, allIn, markRaised}
 
 and-assoc : (a b c : Bool) → ((a && b) && c) ≡ (a && (b && c))

@@ -12,7 +12,7 @@ use Rattle.meaning.specs.Step.{Step, stepMarks, afterMarks}
 use Rattle.meaning.specs.Tree.{Tree}
 use Rattle.meaning.specs.Hang.{marked}
 use Rattle.place_marks.specs.Word.{mapIn}
-use Rattle.place_marks.specs.Register.{knownIn, copyIn}
+use Rattle.register_marks.specs.Register.{knownIn, copyIn}
 
 -- m′ has the marks of m after a step, and after the first n of a family
 abbrev pub MarksStepped : Step → ℕ → ℕ → Type 0

@@ -2,7 +2,7 @@
 use Prim.Native.Nat.{ℕ}
 use mathlib.Core.List.{List, _++_}
 use lib.Ieee.{Format, binary32, binary64}
-use Rattle.decoding.specs.Fields.{regD, regN, regM}
+use Rattle.register_fields.specs.Fields.{regD, regN, regM}
 use Rattle.decoding.specs.declared.operation.Operation.{Operation}
 use Rattle.decoding.specs.declared.operation.Operation.the-variants.{Undefined, Fmac, Fnmac, Fmsc, Fnmsc, Fmul, Fnmul, Fadd, Fsub, Fdiv, Fcpy, Fabs, Fneg, Fsqrt, Fcmp, Fcmpe, Fcmpz, Fcmpez, Fcvt, Fuito, Fsito, Ftoui, Ftouiz, Ftosi, Ftosiz}
 use Rattle.mnemonics.specs.Ascii.{ascii}

@@ -4,16 +4,16 @@ ghost use mathlib.Core.List.{_++_};
 ghost use Rattle.addresses.specs.Address.{formatOf};
 ghost use Rattle.text.specs.Text.{textOf, clip};
 ghost use Rattle.processing_mnemonics.specs.Data.{oneText, twoText, threeText, fromIntegerText, toIntegerText, betweenText, dataText};
-use decoding::fields::double_d;
-use decoding::fields::double_m;
-use decoding::fields::double_n;
-use decoding::fields::single_d;
-use decoding::fields::single_m;
-use decoding::fields::single_n;
 use decoding::operation::Operation;
 use mnemonics::parts::named;
 use mnemonics::parts::precise;
 use mnemonics::parts::register;
+use register_fields::fields::double_d;
+use register_fields::fields::double_m;
+use register_fields::fields::double_n;
+use register_fields::fields::single_d;
+use register_fields::fields::single_m;
+use register_fields::fields::single_n;
 use text::text::Text;
 
 // With register d.

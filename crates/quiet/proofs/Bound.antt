@@ -12,7 +12,7 @@ use Rattle.numbers.specs.Arithmetic.{accumulates}
 use Rattle.numbers.specs.declared.arithmetic.Arithmetic.{Arithmetic}
 use Rattle.numbers.specs.declared.arithmetic.Arithmetic.the-variants.{MultiplyAccumulate, MultiplySubtract, NegateMultiplySubtract, NegateMultiplyAccumulate, Multiply, NegateMultiply, Add, Subtract, Divide}
 use Rattle.directed.specs.Directed.{appliedBy}
-use Rattle.directed.specs.Exceptions.{raisedBy, firstExceptions, lastExceptions, exceptionsBy}
+use Rattle.directed.specs.Exceptions.{raisedBy, lastExceptions, exceptionsBy}
 
 either : (b : Bool) {x y : ℕ} → x < 32 → y < 32 → cond b x y < 32
 either true p q = p

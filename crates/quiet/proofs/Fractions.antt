@@ -1,10 +1,10 @@
 -- What a rounded fraction raises, by its word: from above the least normal value to below infinity at most inexact, and a zero of whole smallest values nothing.
 -- Over the format. Assumes nothing.
 use mathlib.Core.Path.{_≡_, refl, sym, ap, _∙_, subst}
-use mathlib.Core.Logic.{_⊎_, inl, inr}
-use mathlib.Core.Bool.{Bool, true, false, _&&_, cond}
-use Prim.Native.Nat.{ℕ, suc, _+_, _-_, _*_, _/_, _%_, _^_, _≤_, _<_, min}
-use native.Mathlib.Nat.{le-trans, le-of-eq, lt-of-le-of-lt, lt-of-lt-of-le, mul-pos, div-div-eq-div-mul, mul-div-cancel, div-one}
+use mathlib.Core.Logic.{inl, inr}
+use mathlib.Core.Bool.{Bool, true, false, _&&_}
+use Prim.Native.Nat.{ℕ, suc, _+_, _*_, _/_, _%_, _^_, _≤_, _<_, min}
+use native.Mathlib.Nat.{le-trans, lt-of-le-of-lt, mul-pos, div-div-eq-div-mul}
 use native.Mathlib.Omega.{arith}
 use borrow.Author.Tests.{le-ltb, lt-leb}
 use lib.Dec.{ltb, leb, lit<}
@@ -16,11 +16,11 @@ use Rattle.rounding.specs.declared.rounding.Rounding.{Rounding}
 use Rattle.rounding.specs.declared.rounding.Rounding.the-variants.{Nearest}
 use Rattle.packing.specs.Pack.{ceiling}
 use Rattle.exceptions.specs.Exceptions.{settledExceptions, fractionExceptions}
-use Rattle.floats.proofs.Units.{Lead, hid-pos}
-use Rattle.rounding.proofs.Cutting.{cut-ge, cut-le}
-use Rattle.packing.proofs.Written.{ceiling-le, ceiling-ge, over-is, tiny-is}
+use Rattle.floats.proofs.Units.{Lead}
+use Rattle.rounding.proofs.Cutting.{cut-le}
+use Rattle.packing.proofs.Written.{ceiling-le, over-is, tiny-is}
 use Rattle.packing.proofs.Formed.{lead-digit, rounded-word, word-rest}
-use Rattle.quiet.specs.Quiet.{Within, IsZero, Quiet}
+use Rattle.quiet.specs.Quiet.{Within, Quiet}
 
 -- the pattern that is kept, and what is told of it
 module _ (mode : Rounding) (f : Format) (s : Bool) (num den : ℕ) (D : 0 < den) where
@@ -116,43 +116,3 @@ module _ (f : Format) (s : Bool) (num den : ℕ) (D : 0 < den) (h : Within f (to
       either : (x : Bool) → Quiet (settledExceptions x false false)
       either true = inl refl
       either false = inr refl
-
--- whole smallest values round to 0 where they are none
-pub units-zero : (mode : Rounding) (f : Format) (s : Bool) (num : ℕ) → IsZero f (toBits f (rounded mode f s num (2 ^ low f))) → num ≡ 0
-units-zero mode f s num h = by (lead-digit f w)
-  where
-    L : 0 < 2 ^ low f
-    L = pow-pos (low f)
-
-    w : ℕ
-    w = num * 2 ^ low f / 2 ^ low f
-
-    d : ℕ
-    d = dropped f w
-
-    cut : ℕ
-    cut = cutTo mode s (num * 2 ^ low f) (2 ^ low f * 2 ^ d)
-
-    some : (f : Format) (x : ℕ) → ones f * hid f - 1 ≤ x → 0 < x
-    some binary32 x l = omega arith
-    some binary64 x l = omega arith
-
-    least : (a c y : ℕ) → 0 < y → min (a + c) y ≡ 0 → c ≡ 0
-    least a c y p e = omega arith
-
-    below : (c q : ℕ) → c ≡ 0 → q ≤ c → q ≡ 0
-    below c q e l = omega arith
-
-    none : w / 2 ^ d ≡ 0
-    none =
-        whole mode f s num (2 ^ low f) L
-        ∙ below cut (num * 2 ^ low f / (2 ^ low f * 2 ^ d))
-        (least (d * hid f) cut (ceiling mode f s) (some f (ceiling mode f s) (ceiling-ge mode f s)) (sym (rest-at mode f s num (2 ^ low f) L) ∙ h))
-        (cut-ge mode s (num * 2 ^ low f) (2 ^ low f * 2 ^ d))
-
-    over : (h q : ℕ) → 0 < h → h ≤ q → q ≡ 0 → ⊥
-    over h q p l e = omega arith
-
-    by : Lead f d (w / 2 ^ d) → num ≡ 0
-    by (inl z) = sym (mul-div-cancel num L) ∙ sym (div-one w) ∙ ap (λ (x : ℕ). w / 2 ^ x) (sym z) ∙ none
-    by (inr g) = absurd (over (hid f) (w / 2 ^ d) (hid-pos f) g none)

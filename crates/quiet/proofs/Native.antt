@@ -1,15 +1,14 @@
 -- What the nine kinds raise in mode 00, by the native result's word, whatever FZ and bit 25. Over the format. Assumes nothing.
 use mathlib.Core.Path.{_≡_, refl, sym, ap, _∙_, subst}
 use mathlib.Core.Logic.{_⊎_, inl, inr}
-use mathlib.Core.Bool.{Bool, true, false, _&&_, _||_, cond}
+use mathlib.Core.Bool.{Bool, true, false, _&&_, cond}
 use Prim.Native.Nat.{ℕ, _+_, _-_, _*_, _/_, _%_, _^_, _≤_, _<_, max}
 use native.Mathlib.Nat.{div-add-mod', mod-lt}
 use native.Mathlib.Omega.{arith}
 use lib.Bits.{bitOr, or-step, or-block, or-zero-l, or-zero-r, or-self}
 use borrow.Author.Tests.{ltb-true}
 use lib.Dec.{ltb, lit<}
-use lib.Ieee.{Float, nan, inf, fin, Format, binary32, binary64, hid, ones, top, neg, isNan, ofBits, toBits, nanBits}
-use Rattle.floats.specs.Flush.{flush}
+use lib.Ieee.{Float, nan, inf, fin, Format, binary32, binary64, hid, ones, top, isNan, ofBits, toBits, nanBits}
 use Rattle.rounding.specs.Rounding.{roundingOf}
 use Rattle.rounding.specs.declared.rounding.Rounding.{Rounding}
 use Rattle.rounding.specs.declared.rounding.Rounding.the-variants.{Nearest}
@@ -26,13 +25,11 @@ use Rattle.directed.specs.Exceptions.{raisedBy, firstExceptions, lastExceptions
 use Rattle.floats.proofs.Flushing.{flush-none}
 use Rattle.nans.proofs.Choosing.{negation-is}
 use Rattle.exceptions.proofs.Nans.{numbers-raise}
-use Rattle.operators.proofs.Nearest.{sum-nearest, difference-nearest}
-use Rattle.numbers.proofs.Applying.{word-of-value, not-taken}
-use Rattle.directed.proofs.Negation.{neg-word}
+use Rattle.numbers.proofs.Applying.{word-of-value}
 use Rattle.directed.proofs.Values.{applied-lt}
 use Rattle.directed.proofs.Nearest.{mode-nearest, native-applied}
 use Rattle.quiet.specs.Quiet.{Within, IsFinite, IsZero, Product, Quiet, IsQuick}
-use Rattle.quiet.proofs.Values.{sum-quiet, difference-quiet, product-quiet, quotient-quiet, operated-quiet, both-numbers, product-zero, sum-zero}
+use Rattle.quiet.proofs.Values.{sum-quiet, difference-quiet, product-quiet, quotient-quiet, operated-quiet, both-numbers, product-zero}
 
 -- a value that is not written as the default NaN is a number
 a-number : (f : Format) (v : Float) → (toBits f v ≡ defaultNan f → ⊥) → isNan v ≡ false
@@ -172,46 +169,7 @@ module _ (f : Format) (control n m d : ℕ) (N : n < 2 * top f) (M : m < 2 * top
       let g : Within f (appliedBy f control kind n m d) = subst (Within f) e h in
       let k = unflushed f control kind n m d (inl g) in
       (k .0 ∙ sym e, subst Quiet (sym (k .1)) (quiet-or (firstExceptions f control kind n m) (lastExceptions f control kind n m d) (first-quiet kind p) (last-quiet kind g)))
-
   -- ---- a sum or difference that is a zero raises nothing
-
-  silent : (kind : Arithmetic) → accumulates kind ≡ false → IsZero f (applied f kind n m d) → lastExceptions f control kind n m d ≡ 0
-      → (arithmeticBy f control kind n m d ≡ applied f kind n m d) × (exceptionsBy f control kind n m d ≡ 0)
-  silent kind a h l =
-      let e = same-word kind (inr h) in
-      let k = unflushed f control kind n m d (inr (subst (IsZero f) e h)) in (
-        k .0 ∙ sym e,
-        k .1
-            ∙ ap (λ (t : Bool). bitOr (cond t (raisedBy productExceptions f control n m) 0) (lastExceptions f control kind n m d)) a
-            ∙ or-zero-l (lastExceptions f control kind n m d)
-            ∙ l,
-      )
-
-  none-raised : (op : Rounding → Format → Float → Float → ℕ) → IsFinite f n × IsFinite f m × (op Nearest f (ofBits f n) (ofBits f m) ≡ 0) → raisedBy op f control n m ≡ 0
-  none-raised op h =
-      sym (numbers-raise f (op (roundingOf control) f) n m (nanBits f n) (nanBits f m) refl refl (both-numbers f n m (h .0) (h .1)))
-      ∙ ap (λ (mode : Rounding). op mode f (ofBits f n) (ofBits f m)) (mode-nearest control z)
-      ∙ h .2
-
-  pub add-zero : IsZero f (applied f Add n m d) → (arithmeticBy f control Add n m d ≡ applied f Add n m d) × (exceptionsBy f control Add n m d ≡ 0)
-  unfolding lastExceptions
-  add-zero h =
-      silent Add refl h
-      (none-raised sumExceptions
-      (sum-zero Nearest f n m (subst (IsZero f) (word-of-value f Add n m d ∙ ap (toBits f) (sym (sum-nearest f (ofBits f n) (ofBits f m)))) h)))
-
-  pub subtract-zero : IsZero f (applied f Subtract n m d) → (arithmeticBy f control Subtract n m d ≡ applied f Subtract n m d) × (exceptionsBy f control Subtract n m d ≡ 0)
-  unfolding lastExceptions difference differenceExceptions
-  subtract-zero h =
-      let e : ofBits f ((m + top f) % (2 * top f)) ≡ neg (ofBits f m) = neg-word f m ((m + top f) % (2 * top f)) M refl in
-      let g = sum-zero Nearest f n ((m + top f) % (2 * top f))
-      (subst (IsZero f) (word-of-value f Subtract n m d ∙ ap (toBits f) (sym (difference-nearest f (ofBits f n) (ofBits f m)) ∙ ap (sum Nearest f (ofBits f n)) (sym e))) h) in
-      silent Subtract refl h
-      (none-raised differenceExceptions (g .0, subst (λ (x : ℕ). x < ones f * hid f) (same f M) (g .1), ap (λ (v : Float). sumExceptions Nearest f (ofBits f n) v) (sym e) ∙ g .2))
-    where
-      same : (f : Format) → m < 2 * top f → (m + top f) % (2 * top f) % top f ≡ m % top f
-      same binary32 h = omega arith
-      same binary64 h = omega arith
 
 -- ---- what the code takes
 

@@ -1,13 +1,12 @@
 -- What sum, difference, product and quotient raise, by the result's word. Over the format. Assumes nothing.
 use mathlib.Core.Path.{_≡_, refl, sym, ap, _∙_, subst}
 use mathlib.Core.Logic.{_⊎_, inl, inr}
-use mathlib.Core.Bool.{Bool, true, false, not, _||_, cond, Bool·beq}
-use Prim.Native.Nat.{ℕ, zero, suc, _+_, _*_, _/_, _%_, _^_, _≤_, _<_}
-use native.Mathlib.Nat.{le-of-eq, not-le-of-lt, mul-pos, mul-comm, zero-mul, zero-lt-suc}
-use native.Mathlib.Decide.{decLt}
+use mathlib.Core.Bool.{Bool, true, false, _||_, cond, Bool·beq}
+use Prim.Native.Nat.{ℕ, _*_, _%_, _^_, _≤_, _<_}
+use native.Mathlib.Nat.{le-of-eq, not-le-of-lt, mul-pos, mul-comm, zero-mul}
 use native.Mathlib.Omega.{arith}
 use borrow.Author.Tests.{eqb-false}
-use lib.Dec.{T, leb, eqb, lit<, lit≤}
+use lib.Dec.{leb, eqb, lit<, lit≤}
 use lib.Pow.{pow-pos}
 use lib.Ieee.{Float, nan, inf, fin, Format, binary32, binary64, low, hid, ones, top, up, down, unlike, neg, ofBits, toBits, nanBits}
 use lib.Ieee.Fits.{down-pos, up-pos}
@@ -19,13 +18,12 @@ use Rattle.nans.specs.Nan.{operated, nanOf}
 use Rattle.exceptions.specs.Exceptions.{invalid, divisionByZero, fractionExceptions}
 use Rattle.exceptions.specs.Operators.{sumExceptions, differenceExceptions, productExceptions, quotientExceptions, operatedExceptions}
 use Rattle.packing.proofs.Formed.{word-rest}
-use Rattle.operators.proofs.Sums.{sum-at}
-use Rattle.operators.proofs.Words.{nan-above, inf-at, sized, zero-settles, zero-size}
+use Rattle.operators.proofs.Words.{sized, zero-settles, zero-size}
 use Rattle.nans.proofs.Choosing.{nan-of-nan, no-nan, numbers-operated, nans-operated}
-use Rattle.exceptions.proofs.Values.{sum-settles, product-settles}
+use Rattle.exceptions.proofs.Values.{product-settles}
 use Rattle.exceptions.proofs.Nans.{numbers-raise}
 use Rattle.quiet.specs.Quiet.{Within, IsFinite, IsZero, Quiet}
-use Rattle.quiet.proofs.Fractions.{fraction-quiet, units-zero}
+use Rattle.quiet.proofs.Fractions.{fraction-quiet}
 
 -- ---- NaNs and infinities are neither within nor zeros
 
@@ -41,10 +39,6 @@ inf-rest f s = le-of-eq (sym (word-rest f s (ones f * hid f) (ones-lt f)))
     ones-lt : (f : Format) → ones f * hid f < top f
     ones-lt binary32 = lit< tt
     ones-lt binary64 = lit< tt
-
-not-zero : (f : Format) (x : ℕ) → ones f * hid f ≤ x → x ≡ 0 → ⊥
-not-zero binary32 x h e = omega arith
-not-zero binary64 x h e = omega arith
 
 -- ---- the operators on values
 
@@ -139,55 +133,4 @@ module _ (mode : Rounding) (f : Format) (a b : ℕ) (h : IsFinite f a) (k : IsFi
       let p = sized f a h in
       sym (product-settles mode f (ofBits f a) (ofBits f b) (leb (top f) a) (leb (top f) b) (p .size) (2 ^ low f) 0 1 _ true false false (pow-pos (low f)) (lit< tt) (p .value) (zero-size f b z)
       (zero-settles mode f (unlike (leb (top f) a) (leb (top f) b)) (p .size * 0) (2 ^ low f * 1) (mul-pos (pow-pos (low f)) (lit< tt)) (mul-comm (p .size) 0 ∙ zero-mul (p .size))) .1)
-
   -- a sum that is a zero is exact: both operands are whole smallest values
-  sum-none : IsZero f (toBits f (sum mode f (ofBits f a) (ofBits f b))) → sumExceptions mode f (ofBits f a) (ofBits f b) ≡ 0
-  sum-none z =
-      let p = sized f a h in
-      let q = sized f b k in
-      let s = leb (top f) a in
-      let t = leb (top f) b in
-      let σ = sumSign mode s (p .size) t (q .size) in
-      let n = sumSize s (p .size) t (q .size) in
-      let e : n ≡ 0 = units-zero mode f σ n (ap (λ (v : Float). toBits f v % top f) (sym (sum-at mode f (ofBits f a) (ofBits f b) s t (p .size) (q .size) (2 ^ low f) (pow-pos (low f)) (p .value) (q .value))) ∙ z) in
-      sym (sum-settles mode f (ofBits f a) (ofBits f b) s t (p .size) (q .size) (2 ^ low f) σ n _ true false false (pow-pos (low f)) (p .value) (q .value) (refl, refl) (zero-settles mode f σ n (2 ^ low f) (pow-pos (low f)) e) .1)
-
--- and of finite operands
-abbrev finite : Float → Bool
-finite nan = false
-finite (inf s) = false
-finite (fin s m e) = true
-
-finite-sum : (mode : Rounding) (f : Format) (x y : Float) → IsZero f (toBits f (sum mode f x y)) → T (finite x) × T (finite y)
-unfolding sum
-finite-sum mode f nan y z = absurd (not-zero f _ (nan-rest f) z)
-finite-sum mode f (inf s) nan z = absurd (not-zero f _ (nan-rest f) z)
-finite-sum mode f (inf s) (inf t) z = absurd (go (Bool·beq s t) z)
-  where
-    go : (b : Bool) → IsZero f (toBits f (cond b (inf s) nan)) → ⊥
-    go true z = not-zero f _ (inf-rest f s) z
-    go false z = not-zero f _ (nan-rest f) z
-finite-sum mode f (inf s) (fin t n d) z = absurd (not-zero f _ (inf-rest f s) z)
-finite-sum mode f (fin s m e) nan z = absurd (not-zero f _ (nan-rest f) z)
-finite-sum mode f (fin s m e) (inf t) z = absurd (not-zero f _ (inf-rest f t) z)
-finite-sum mode f (fin s m e) (fin t n d) z = (tt, tt)
-
-finite-word : (f : Format) (w : ℕ) → T (finite (ofBits f w)) → IsFinite f w
-finite-word f w h = go (decLt (w % top f) (ones f * hid f)) (decLt (ones f * hid f) (w % top f))
-  where
-    level : (x y : ℕ) → (x < y → ⊥) → (y < x → ⊥) → x ≡ y
-    level x y a b = omega arith
-
-    go : Dec (w % top f < ones f * hid f) → Dec (ones f * hid f < w % top f) → IsFinite f w
-    go (yes l) d = l
-    go (no n) (yes l) = absurd (subst (λ (v : Float). T (finite v)) (nan-above f w l) h)
-    go (no n) (no m) = absurd (subst (λ (v : Float). T (finite v)) (inf-at f w (level (w % top f) (ones f * hid f) n m)) h)
-
--- a sum that is a zero raises nothing, in any mode
-pub sum-zero : (mode : Rounding) (f : Format) (a b : ℕ) → IsZero f (toBits f (sum mode f (ofBits f a) (ofBits f b)))
-    → IsFinite f a × IsFinite f b × (sumExceptions mode f (ofBits f a) (ofBits f b) ≡ 0)
-sum-zero mode f a b z =
-    let p = finite-sum mode f (ofBits f a) (ofBits f b) z in
-    let h = finite-word f a (p .0) in
-    let k = finite-word f b (p .1) in
-    (h, k, sum-none mode f a b h k z)

@@ -1,19 +1,19 @@
 -- The laws by which the code's proofs follow a watched run forward, word by word, and walk it back.
-use Prim.Native.Nat.{ℕ, zero, suc, _+_, _≤_, _<_}
+use Prim.Native.Nat.{ℕ, zero, suc, _≤_, _<_}
 use native.Mathlib.Omega.{arith}
 use native.Mathlib.Decide.{ℕ-discrete}
 use mathlib.Core.Path.{_≡_, refl, ap, sym, _∙_, subst}
 use mathlib.Core.Logic.{inl, inr}
-use mathlib.Core.List.{List, [], _∷_, _++_}
+use mathlib.Core.List.{List, [], _++_}
 use mathlib.Core.Bool.{Bool, true, false, cond}
 use lib.ListN.{length, getD, drop, drop-of-length-le}
 use lib.Seq.{drop-cons}
 use Rattle.machine.specs.Place.{Place, State, get, number}
 use Rattle.meaning.specs.Map.{Map, known}
-use Rattle.meaning.specs.Step.{Act, Step, step, actMarks}
+use Rattle.meaning.specs.Step.{Act, Step, actMarks}
 use Rattle.meaning.specs.Stop.{Stop, hangs}
 use Rattle.meaning.specs.Tree.{Tree, stop, go, branch, ask, Next, on, last, halt, Seen, seen, watched}
-use Rattle.meaning.specs.Run.{advance, watch}
+use Rattle.meaning.specs.Run.{watch}
 use Rattle.chains.specs.Steps.{Event, stepsOf, wordSteps, eventsAt, goingOn, runSteps, marksAfter}
 use Rattle.chains.specs.Chain.{Pair, Through, ends, Way, Chain}
 use Rattle.reached.specs.Point.{Point, pointAt, seenAt, actAt, CountedAt, logged, Ran}

@@ -4,7 +4,7 @@ ghost use mathlib.Core.Bool.{true};
 ghost use Prim.Native.Nat.{_+_, _*_, _<_, _≤_};
 ghost use lib.ListN.{length, take, drop};
 ghost use Rattle.machine.specs.Place.{before};
-ghost use Rattle.limits.specs.Marks.{bitsOnly};
+ghost use Rattle.window_marks.specs.Marks.{bitsOnly};
 ghost use Rattle.records.specs.Number.{numbersOf};
 ghost use Rattle.records.specs.Recorded.{wordOfMarks};
 use machine::place::WINDOW;

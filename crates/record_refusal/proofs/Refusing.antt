@@ -8,7 +8,7 @@ use lib.Dec.{eqb, leb}
 use lib.ListN.{length, getD, take, drop}
 use borrow.Author.Tests.{lt-leb, le-leb, eq-eqb, ne-eqb, eqb-true, leb-true}
 use Rattle.machine.specs.Place.{before}
-use Rattle.limits.specs.Marks.{bitsOnly}
+use Rattle.window_marks.specs.Marks.{bitsOnly}
 use Rattle.limits.specs.Limit.{runLimit, watchLimit}
 use Rattle.layout.specs.State.{decode, valid, Valid}
 use Rattle.layout.proofs.Both.{fst, snd}

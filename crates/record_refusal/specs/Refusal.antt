@@ -8,7 +8,7 @@ use lib.ListN.{length, getD, take, drop}
 use Rattle.machine.specs.Place.{State, state, before}
 use Rattle.meaning.specs.Map.{Map}
 use Rattle.place_marks.specs.Word.{mapIn}
-use Rattle.limits.specs.Marks.{bitsOnly}
+use Rattle.window_marks.specs.Marks.{bitsOnly}
 use Rattle.layout.specs.State.{decode, valid}
 use Rattle.watch.specs.Watch.{limitOf}
 use Rattle.records.specs.Number.{numbersOf}

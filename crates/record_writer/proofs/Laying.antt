@@ -7,7 +7,7 @@ use mathlib.Core.List.{List, [], _∷_, _++_, append-assoc, append-nil}
 use lib.ListN.{length, length-append, getD, set, take, drop, take-append-drop}
 use lib.Seq.{sets-eq, take-at, drop-at, drop-drop, take-suc, take-all, length-take-le}
 use Rattle.machine.specs.Place.{before}
-use Rattle.limits.specs.Marks.{bytesOf}
+use Rattle.window_marks.specs.Marks.{bytesOf}
 use Rattle.records.specs.Number.{written, laid}
 use Rattle.records.specs.Recorded.{Recorded, layoutBit, numbersFor, toBytes, marksOfWord, recordOf, Fits, Wrote}
 use Rattle.records.proofs.Written.{written-length}

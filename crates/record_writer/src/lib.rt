@@ -3,7 +3,7 @@ ghost use mathlib.Core.Path.{_≡_};
 ghost use Prim.Native.Nat.{_+_, _*_, _%_, _^_, _<_, _≤_};
 ghost use lib.ListN.{length};
 ghost use Rattle.machine.specs.Place.{before};
-ghost use Rattle.limits.specs.Marks.{bytesOf};
+ghost use Rattle.window_marks.specs.Marks.{bytesOf};
 ghost use Rattle.records.specs.Number.{written, laid};
 ghost use Rattle.records.specs.Recorded.{marksOfWord, recordOf, Fits, Wrote};
 use machine::place::WINDOW;

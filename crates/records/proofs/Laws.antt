@@ -10,7 +10,7 @@ use lib.Dec.{ltb}
 use lib.ListN.{length, length-drop, getD, set, take, drop, drop-of-length-le}
 use lib.Seq.{drop-cons, getD-drop, getD-take, take-suc, take-suc-set, take-all, length-take-le}
 use borrow.Author.Tests.{ltb-true}
-use Rattle.limits.specs.Marks.{bitsOnly}
+use Rattle.window_marks.specs.Marks.{bitsOnly}
 use Rattle.records.specs.Number.{numberAt, firstNumbers, numbersOf}
 use Rattle.records.specs.Recorded.{wordOfMarks}
 

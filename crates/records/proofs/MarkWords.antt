@@ -10,7 +10,7 @@ use lib.Arith.{mod-mul}
 use lib.ListN.{length, getD}
 use lib.Pow.{pow-pos}
 use borrow.Author.Tests.{lt-ltb}
-use Rattle.limits.specs.Marks.{bitsOnly}
+use Rattle.window_marks.specs.Marks.{bitsOnly}
 use Rattle.records.specs.Recorded.{wordOfMarks, marksOfWord}
 use Rattle.records.proofs.Laws.{first-mark}
 

@@ -8,7 +8,7 @@ use lib.Dec.{leb}
 use lib.ListN.{length, length-append, length-drop, getD, take, drop, take-append-drop}
 use lib.Seq.{drop-cons, getD-drop, drop-drop, take-at, drop-at, take-all, length-take-le}
 use borrow.Author.Tests.{eqb-true, eq-eqb, leb-true, le-leb}
-use Rattle.limits.specs.Marks.{bytesOf}
+use Rattle.window_marks.specs.Marks.{bytesOf}
 use Rattle.layout.proofs.Both.{fst, snd}
 use Rattle.records.specs.Number.{firstNumbers, numbersOf, written}
 use Rattle.records.specs.Recorded.{Recorded, layoutBit, listCount, numbersFor, recordedIn, toBytes, ofBytes, sized, Writable}

@@ -2,7 +2,7 @@
 use Prim.Native.Nat.{ℕ, zero, suc, _+_, _*_, _/_}
 use mathlib.Core.List.{List, [], _∷_, _++_}
 use lib.ListN.{length, getD, take, drop}
-use Rattle.limits.specs.Marks.{bytesOf}
+use Rattle.window_marks.specs.Marks.{bytesOf}
 
 -- the number whose lowest byte is the i-th
 abbrev pub numberAt : List ℕ → ℕ → ℕ

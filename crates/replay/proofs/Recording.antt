@@ -11,7 +11,7 @@ use lib.Seq.{take-at, drop-at, length-take-le}
 use borrow.Author.Tests.{lt-ltb, le-leb, eq-eqb}
 use Rattle.machine.specs.Machine.{Sized}
 use Rattle.machine.specs.Place.{before}
-use Rattle.limits.specs.Marks.{bitsOnly}
+use Rattle.window_marks.specs.Marks.{bitsOnly}
 use Rattle.layout.specs.State.{encode, decode, valid, Valid}
 use Rattle.layout.proofs.Words.{decode-encode, encode-decode, valid-encode, valid-facts}
 use Rattle.layout.proofs.Both.{fst, snd}
@@ -26,8 +26,8 @@ use Rattle.records.proofs.MarkWords.{word-of-marks, marks-of-word, marks-length
 use Rattle.records.proofs.Small.{Below, below-take, below-drop, writable, stated-is, numbers-below}
 use Rattle.record_refusal.specs.Refusal.{limitIn, fits, wellFormed, refusalOf, Fitting}
 use Rattle.replay.specs.Replay.{refusedReply, replayReply}
-use Rattle.replay.specs.Recording.{Cycle, startOf, mapFor, limitFor, watchFor, bytesFor, cycleIn}
-use Rattle.replay.specs.Recording.{Recordable, ReadBack, Held, Replayed, WrittenBack}
+use Rattle.replay.specs.Recording.{Cycle, startOf, limitFor, watchFor, bytesFor, cycleIn}
+use Rattle.replay.specs.Recording.{Recordable, ReadBack, Replayed, WrittenBack}
 use Rattle.record_refusal.proofs.Fields.{numbers-there, known-is, part, window-length, window-known-length, list-length}
 use Rattle.record_refusal.proofs.Refusing.{limited, accepted, accepted-size}
 
@@ -73,15 +73,6 @@ module _ (x : Cycle) (r : Recordable x) where
 
   map-back : mapIn (x .known % 2 ^ before) (x .marks) ≡ mapIn (x .known) (x .marks)
   map-back = same-map (x .known % 2 ^ before) (x .known) (x .marks) (mod-mod (x .known) (2 ^ before))
-
-  pub held : Held x
-  held =
-      record {
-        start = ap startOf read-back-cycle;
-        map = ap mapFor read-back-cycle ∙ map-back;
-        base = ap (λ (z : Cycle). z .base) read-back-cycle;
-        list = ap (λ (z : Cycle). z .list) read-back-cycle;
-      }
 
   -- ---- no refusal of its own: 9 and 10
 

@@ -4,7 +4,7 @@ use native.Mathlib.Omega.{arith}
 use mathlib.Core.Path.{_≡_, refl, ap, sym, subst, _∙_}
 use mathlib.Core.Bool.{Bool, true, false, cond}
 use mathlib.Core.List.{List, _++_}
-use lib.ListN.{length, getD, take, drop}
+use lib.ListN.{length, take, drop}
 use lib.Seq.{take-at}
 use lib.Count.{ones}
 use borrow.Author.Tests.{ne-eqb, eq-eqb}
@@ -12,7 +12,7 @@ use Rattle.machine.specs.declared.Machine.{Machine}
 use Rattle.machine.specs.Machine.{newMachine}
 use Rattle.machine.specs.Place.{state, before}
 use Rattle.meaning.specs.Stop.{report, refused}
-use Rattle.limits.specs.Marks.{bitsOnly, onesOf}
+use Rattle.window_marks.specs.Marks.{bitsOnly, onesOf}
 use Rattle.limits.specs.Limit.{watchLimit}
 use Rattle.limits.proofs.Limits.{run-within, marks-within, list-within}
 use Rattle.layout.specs.State.{decode, valid}

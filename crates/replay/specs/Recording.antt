@@ -13,7 +13,7 @@ use Rattle.place_marks.specs.Word.{mapIn}
 use Rattle.layout.specs.State.{encode, decode}
 use Rattle.watch.specs.Watch.{Reply, limitOf, watchReply}
 use Rattle.records.specs.Recorded.{layoutBit, toBytes, ofBytes, wordOfMarks, recordOf}
-use Rattle.record_refusal.specs.Refusal.{stateIn, mapOf, refusalOf}
+use Rattle.record_refusal.specs.Refusal.{refusalOf}
 use Rattle.replay.specs.Replay.{refusedReply, replayReply}
 
 -- a control cycle: a machine with the word of its marks, a window with its own, and the list that is run over them
@@ -73,13 +73,6 @@ abbrev pub ReadBack : Cycle → Type 0
 ReadBack x =
     cycleIn (bytesFor x)
     ≡ record { machine = x .machine; known = x .known % 2 ^ before; window = x .window; marks = x .marks; base = x .base; list = x .list }
-
--- so that the state and the map of its record are its own
-pub record Held (x : Cycle) : Type 0 where
-  pub start : stateIn (ofBytes (bytesFor x)) ≡ startOf x
-  pub map : mapOf (ofBytes (bytesFor x)) ≡ mapFor x
-  pub base : ofBytes (bytesFor x) .base ≡ x .base
-  pub list : ofBytes (bytesFor x) .list ≡ x .list
 
 -- its replay with buffers as long as the window is its watched run; where that is refused, it is refused with the same number
 abbrev pub Replayed : Cycle → Type 0

@@ -7,11 +7,11 @@ ghost use Rattle.known_places.specs.Count.{knownPlaces};
 ghost use Rattle.watch.specs.Watch.{answered};
 ghost use Rattle.replay.specs.Promise.{ReplayPromise};
 use cycle::run_cycle;
-use limits::marks::count_ones;
 use machine::Machine;
 use record_refusal::refusal;
 use run_word::Stop;
 use watch::Watched;
+use window_marks::marks::count_ones;
 
 // Runs what the bytes of a record hold, watched. Its window and window marks are laid into the two lent buffers, which a refusal leaves as they came; then of all places those
 // that these marks call known are.

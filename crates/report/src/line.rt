@@ -1,7 +1,6 @@
 // The lines of a report that tell of the run: its stop, and how much of the list was run.
 ghost use mathlib.Core.Path.{_≡_};
 ghost use mathlib.Core.List.{_++_};
-ghost use Prim.Native.Nat.{_%_, _^_};
 ghost use Rattle.machine.specs.Place.{number, core};
 ghost use Rattle.text.specs.Text.{textOf, clip};
 ghost use Rattle.bits.specs.Field.{bitOf};

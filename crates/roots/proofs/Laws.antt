@@ -27,20 +27,10 @@ sqrt-word mode f (fin true (suc m) e) t = nan-word f
 sqrt-word mode f (fin false (suc m) e) t = (root-lt mode f (suc m * up e) (down e) (down-pos e), root-normal mode f (suc m * up e) (down e) (down-pos e) (reaches f false m e t))
 
 module _ (f : Format) (control m : ℕ) where
-  pub root-not-subnormal : NotSubnormal f (rootNumber f control m)
-  unfolding rootNumber
-  root-not-subnormal = subst (NotSubnormal f) (sym (flush-none f control _ root)) root
-    where
-      root : NotSubnormal f (toBits f (sqrtOf (roundingOf control) f (ofBits f m)))
-      root = sqrt-word (roundingOf control) f (ofBits f m) (ofBits-fits f m) .1
-
   -- the control word gives the mode alone
   pub root-unflushed : rootNumber f control m ≡ toBits f (sqrtOf (roundingOf control) f (ofBits f m))
   unfolding rootNumber
   root-unflushed = flush-none f control _ (sqrt-word (roundingOf control) f (ofBits f m) (ofBits-fits f m) .1)
-
-  pub root-word-lt : rootNumber f control m < 2 * top f
-  root-word-lt = subst (λ (x : ℕ). x < 2 * top f) (sym root-unflushed) (sqrt-word (roundingOf control) f (ofBits f m) (ofBits-fits f m) .0)
 
 -- of any word
 pub number-root : (f : Format) (control m : ℕ) → nanBits f m ≡ false → toBits f (sqrtOf (roundingOf control) f (ofBits f m)) ≡ squareRoot f control m

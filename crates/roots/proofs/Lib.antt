@@ -3,7 +3,6 @@ pub mod Squares
 pub mod RootDigits
 pub mod Sqrt
 pub mod RootNear
-pub mod Estimate
 pub mod RootFormed
 pub mod Laws
 pub mod Sight

@@ -17,10 +17,9 @@ use lib.Ieee.Exact.{HasValue}
 use Rattle.rounding.specs.declared.rounding.Rounding.{Rounding}
 use Rattle.packing.specs.Pack.{ceiling}
 use Rattle.exceptions.specs.Exceptions.{invalid, inexact}
-use Rattle.roots.specs.Root.{isqrt, rootCut, rootOf, sqrtOf, exactRoot, sqrtExceptions, IsRooted, IsSqrt}
+use Rattle.roots.specs.Root.{isqrt, rootCut, rootOf, sqrtOf, exactRoot, sqrtExceptions, IsSqrt}
 use Rattle.rounding.specs.Lift.{Lifted}
 use Rattle.floats.proofs.Units.{prec-pos, slide, twice-hid, hid-pos, reads-low, reads-mid, reads-inf, reads-zero, reads-normal, field-le}
-use Rattle.floats.proofs.Patterns.{nan-of-fields}
 use Rattle.rounding.proofs.Cutting.{move-le}
 use Rattle.packing.proofs.Written.{ceiling-ge}
 use Rattle.roots.proofs.Squares.{isqrt-ge, isqrt-lt, sqrt-is}
@@ -193,9 +192,6 @@ module _ (f : Format) (D X r e j k m : ℕ) (m-is : m ≡ D * 2 ^ r) (least : 2 
 
       finite : k * hid f + rootCut mode A 1 < ones f * hid f
       finite = add-up (k * hid f) (hid f) (rootCut mode A 1) (2 ^ prec f) (ones f * hid f) (le-trans (le-of-eq (sym (add-mul k 3 (hid f)))) (mul-le-mul-right (hid f) room)) most (twice-hid f) (hid-pos f)
-
-  pub root-kept : (mode : Rounding) → rootCut mode A 1 ≤ 2 ^ prec f
-  root-kept mode = le-trans (move-le mode false (isqrt (A / 1)) _ _) (subst (λ (x : ℕ). isqrt x < 2 ^ prec f) (sym (div-one A)) root-under)
 
 -- ---- by the fields. An exponent is counted so that none is below 0 and each half of it is whole.
 

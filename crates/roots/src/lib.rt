@@ -1,2 +1,2 @@
-// Square roots of register words.
+// Square roots as definitions, and a binary digit at a time.
 pub mod root;

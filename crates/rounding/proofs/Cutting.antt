@@ -278,9 +278,6 @@ module _ (m h : ℕ) (H : 0 < h) where
   U : 0 < u
   U = omega arith
 
-  half : u / 2 ≡ h
-  half = omega arith
-
   by-half : (o : Ordering) → Cmp o (r * 2) u → (m + (u / 2 - 1 + m / u % 2)) / u ≡ nearest (m / u) o
   by-half Ordering·lt c = stays m u U (u / 2 - 1 + m / u % 2) (less r (m / u % 2) c (mod-lt (m / u) (lit< tt)))
     where

@@ -6,7 +6,7 @@ ghost use Rattle.meaning.specs.Run as R;
 ghost use Rattle.decoding.specs.Table.{operationTable};
 ghost use Rattle.word_class.specs.Word.{meaning};
 ghost use Rattle.run.specs.Run.{answered, reply, runReply};
-use decoding::table::operations;
+use decode_table::table::operations;
 use limits::limit::run_limit;
 use machine::Machine;
 use progress::Progress;

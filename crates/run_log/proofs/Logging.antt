@@ -14,12 +14,12 @@ use Rattle.machine.specs.Place.{State}
 use Rattle.meaning.specs.Map.{Map}
 use Rattle.meaning.specs.Step.{step}
 use Rattle.meaning.specs.Stop.{Stop, finished, branched}
-use Rattle.meaning.specs.Tree.{Next, on, last, halt, Seen, seen, watched}
+use Rattle.meaning.specs.Tree.{on, last, halt, Seen, watched}
 use Rattle.meaning.specs.Run.{advance, endedWith, watch}
 use Rattle.meaning.proofs.Laws.{watch-on, watch-last, watch-halt, watch-end}
 use Rattle.place_marks.specs.Word.{mapIn}
 use Rattle.word_class.specs.Word.{meaning}
-use Rattle.reached.specs.Point.{Point, pointAt, seenAt, Ran}
+use Rattle.reached.specs.Point.{Point, pointAt, seenAt}
 use Rattle.reached.proofs.Reached.{Reached, reached-none, reached-on, reached-last, reached-halt, reached-end}
 use Rattle.word_sources.specs.Value.{valueOf}
 use Rattle.run_log.specs.Log.{Log, Logged}

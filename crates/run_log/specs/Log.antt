@@ -10,7 +10,7 @@ use Rattle.machine.specs.Place.{State}
 use Rattle.meaning.specs.Map.{Map}
 use Rattle.place_marks.specs.Word.{mapIn}
 use Rattle.word_class.specs.Word.{meaning}
-use Rattle.reached.specs.Point.{Point, pointAt, Ran}
+use Rattle.reached.specs.Point.{pointAt, Ran}
 use Rattle.word_sources.specs.Value.{valueOf}
 
 -- of the first n words of a list from a state and a map; the window's marks before a word are not logged

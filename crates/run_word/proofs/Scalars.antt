@@ -15,7 +15,7 @@ use Rattle.decoding.specs.declared.operation.Operation.{Operation}
 use Rattle.decoding.specs.Operation.{operationOf, operationNumbered, numberOf}
 use Rattle.decoding.proofs.Entries.{numbered-number}
 use Rattle.processing.specs.declared.Processed.the-variants.{Done}
-use Rattle.processing.specs.Data.{operationTree, namedTree, dataTree, Handled}
+use Rattle.processing.specs.Data.{namedTree, dataTree, Handled}
 use Rattle.processing.proofs.Done.{handled-as, data-single, data-double}
 use Rattle.run_word.specs.Stop.{nextOf}
 use Rattle.run_word.specs.declared.Next.the-variants.{On}

@@ -16,9 +16,9 @@ use super::Next;
 use super::Stop;
 use super::word::Executed;
 use bits::field::bit;
+use decode_table::table::number;
 use decoding::operation::Operation;
 use decoding::operation::numbered;
-use decoding::table::number;
 use machine::Controls;
 use processing::Processed;
 use scalars::arithmetic::scalar_double;
@@ -63,7 +63,7 @@ fn steps(s: &mut [u32; 32], r: &[u32; 16], x: Controls, o: Operation, op: u32) -
     requires { ⌜ o ≡ operationOf op ⌝ }
     ensures { λ e. ⌜ ((v : List ℕ) → out (state (assembled (now (s .exit)) (now (r .entry)) (e .controls) false) v) (nextOf (e .next)) ≡ plain (dataTree false op) (state (assembled (now (s .entry)) (now (r .entry)) x false) v)) ⌝ }
 {
-    let after = processing::process(s, x.fpscr, o, op);
+    let after = data_processing::word::process(s, x.fpscr, o, op);
     match after {
         Processed::Done(fpscr) => done(x, fpscr),
         Processed::Undefined => {

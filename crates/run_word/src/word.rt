@@ -48,7 +48,7 @@ pub fn execute(
     match class {
         Class::Data => process_data(table, s, r, x, op),
         Class::Access => {
-            memory::coprocessor_load_store(s, r, window, base, op);
+            load_stores::access::coprocessor_load_store(s, r, window, base, op);
             Executed {
                 controls: x,
                 next: Next::On,

@@ -2,7 +2,7 @@
 use Prim.Native.Nat.{ℕ, zero, suc, _/_, _%_, _^_, _<_}
 use native.Mathlib.Omega.{arith}
 use mathlib.Core.Path.{_≡_, refl, subst}
-use mathlib.Core.Bool.{Bool, true, false}
+use mathlib.Core.Bool.{Bool, false}
 use mathlib.Core.List.{List, [], _∷_}
 use lib.Dec.{ltb}
 use lib.Ieee.{Format}
@@ -18,7 +18,7 @@ use Rattle.short_vectors.specs.Register.{Stepped, SteppedWith, Iterated, Iterat
 use Rattle.short_vectors.proofs.Loop.{onSingles, onBoth, both, once-only}
 use Rattle.arithmetic_steps.specs.Arithmetic.{arithmeticStep}
 use Rattle.decoding.specs.declared.operation.Operation.{Operation}
-use Rattle.decoding.specs.Fields.{regD, regN, regM}
+use Rattle.register_fields.specs.Fields.{regD, regN, regM}
 use Rattle.decoding.specs.Operation.{operationNumbered, arithmeticOf, numberOf}
 use Rattle.decoding.proofs.operation.Operation.{the-type}
 use Rattle.decoding.proofs.Named.{one-of}

@@ -6,18 +6,18 @@ ghost use lib.Ieee.{binary32, binary64};
 ghost use Rattle.decoding.specs.Operation.{operationNumbered};
 ghost use Rattle.processing.specs.Data.{Handled, namedTree};
 ghost use Rattle.processing.specs.declared.Processed.the-variants.{Done};
-use arithmetic_steps::arithmetic::quick_double;
-use arithmetic_steps::arithmetic::quick_single;
-use arithmetic_steps::arithmetic::rounded_double;
-use arithmetic_steps::arithmetic::rounded_single;
-use decoding::fields::double_d;
-use decoding::fields::double_m;
-use decoding::fields::double_n;
-use decoding::fields::single_d;
-use decoding::fields::single_m;
-use decoding::fields::single_n;
 use decoding::operation::arithmetic_of;
 use decoding::operation::numbered;
+use double_arithmetic::double::quick_double;
+use double_arithmetic::double::rounded_double;
+use register_fields::fields::double_d;
+use register_fields::fields::double_m;
+use register_fields::fields::double_n;
+use register_fields::fields::single_d;
+use register_fields::fields::single_m;
+use register_fields::fields::single_n;
+use single_arithmetic::single::quick_single;
+use single_arithmetic::single::rounded_single;
 
 pub fn scalar_single(s: &mut [u32; 32], fpscr: u32, number: u8, op: u32) -> u32
     requires { ⌜ (0 < number) × (number < 10) × (fpscr / 2 ^ 16 % 8 ≡ 0) ⌝ }

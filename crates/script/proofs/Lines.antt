@@ -2,8 +2,8 @@
 use Prim.Native.Nat.{ℕ, suc, _+_, _-_, _≤_, _<_}
 use native.Mathlib.Omega.{arith}
 use native.Mathlib.Numerals.{add-one}
-use mathlib.Core.Path.{_≡_, refl, sym, _∙_, ap}
-use mathlib.Core.List.{List, [], _∷_}
+use mathlib.Core.Path.{_≡_, sym, _∙_, ap}
+use mathlib.Core.List.{List}
 use lib.ListN.{length, take, drop, length-drop, drop-of-length-le}
 use lib.Seq.{drop-drop}
 use Rattle.listing.specs.declared.line.Item as listed
@@ -20,7 +20,7 @@ use Rattle.script.specs.declared.mistake.Mistake.{Mistake}
 use Rattle.script.specs.declared.mistake.Mistake.the-variants as mistake
 use Rattle.script.specs.declared.text.Taken.the-variants.{All, Wrong}
 use Rattle.script.specs.Item.{Buffers, Outcome, outcome, wordOutcome, setOutcome, unknownOutcome, windowStep, itemOutcome, lineOutcome}
-use Rattle.script.specs.Text.{Reading, reading, follow, linesReading}
+use Rattle.script.specs.Text.{reading, follow, linesReading}
 
 module _ (l : List ℕ) (y : Layout) (b : Buffers) where
   by-item : (i : listed.Item) → i ≡ itemOf l → itemOutcome i l y b ≡ lineOutcome l y b

@@ -17,7 +17,6 @@ use Rattle.tokens.specs.Token.{wordsOf}
 use Rattle.script.specs.declared.item.Layout.{Layout}
 use Rattle.script.specs.declared.item.Step.{Step}
 use Rattle.script.specs.declared.item.Step.the-variants.{On, Wrong}
-use Rattle.script.specs.declared.mistake.Mistake.{Mistake}
 use Rattle.script.specs.declared.mistake.Mistake.the-variants.{Item, Beyond, Words, Again, Refused}
 
 -- the words of the state and of the window, the map that their marks hold, and the list

@@ -12,7 +12,7 @@ use Rattle.numerals.specs.Number.{digitsText, hexText}
 use Rattle.numerals.proofs.Digits.{digits-length}
 use Rattle.numerals.proofs.Back.{digits-same}
 use Rattle.machine.specs.declared.Machine.{Machine}
-use Rattle.machine.specs.Registers.{lowIndex, highIndex}
+use Rattle.registers.specs.Registers.{lowIndex, highIndex}
 use Rattle.machine.specs.Place.{single}
 use Rattle.meaning.specs.Map.{Map, known}
 use Rattle.sheet.specs.Line.{Line, line, spaces, letterOf, characters, lineText}

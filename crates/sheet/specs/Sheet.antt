@@ -5,7 +5,7 @@ use mathlib.Core.List.{List, [], _++_}
 use lib.Dec.{ltb}
 use lib.ListN.{length, drop, getD}
 use Rattle.machine.specs.declared.Machine.{Machine}
-use Rattle.machine.specs.Registers.{lowIndex, highIndex}
+use Rattle.registers.specs.Registers.{lowIndex, highIndex}
 use Rattle.machine.specs.Place.{lowWord, highWord}
 use Rattle.meaning.specs.Map.{Map, known}
 use Rattle.sheet.specs.Line.{Line, line, lineText}

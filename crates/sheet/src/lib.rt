@@ -6,12 +6,12 @@ ghost use Rattle.place_marks.specs.Word.{mapIn};
 ghost use Rattle.sheet.specs.Line.{line, letterOf, lineText};
 ghost use Rattle.sheet.specs.Sheet.{lineOf, reply, laidOut};
 use machine::Machine;
-use machine::registers::Double;
-use machine::registers::Single;
-use machine::registers::Words;
-use machine::registers::get_words;
 use numerals::number::write_digits;
-use place_marks::registers::single_known;
+use register_marks::register::single_known;
+use registers::registers::Double;
+use registers::registers::Single;
+use registers::registers::Words;
+use registers::registers::get_words;
 
 // 16 lines of 40 characters and a line feed.
 pub const SHEET_BYTES: usize = 656;

@@ -1,6 +1,6 @@
 -- The cumulative exception bits with those of an operation.
 use Prim.Native.Nat.{ℕ, _+_, _*_, _/_, _%_, _^_, _<_}
-use native.Mathlib.Nat.{div-add-mod', div-eq-of-lt, mod-eq-of-lt, mod-mod}
+use native.Mathlib.Nat.{div-add-mod', div-eq-of-lt, mod-mod}
 use mathlib.Core.Path.{_≡_, sym, ap, _∙_}
 use lib.Bits.{bitOr, or-shr, or-mod, or-zero-r}
 use Rattle.short_vectors.specs.Register.{raisedIn}

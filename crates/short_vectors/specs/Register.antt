@@ -4,7 +4,7 @@ use Prim.Native.Nat.{ℕ, _+_, _*_, _/_, _%_, _^_}
 use mathlib.Core.List.{List, [], _∷_}
 use lib.Bits.{bitOr}
 use lib.Ieee.{Format, binary32, binary64}
-use Rattle.machine.specs.Registers.{doubleOf}
+use Rattle.registers.specs.Registers.{doubleOf}
 use Rattle.machine.specs.declared.Machine.{Machine}
 use Rattle.machine.specs.Machine.{withS, withFpscr}
 use Rattle.machine.specs.Place.{Place, sWord, lowWord, highWord, exceptions, exceptionsOf, state}

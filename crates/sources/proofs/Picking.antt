@@ -6,7 +6,7 @@ use mathlib.Core.Bool.{Bool, true, false, _&&_, false≢true}
 use mathlib.Core.Logic.{inl, inr}
 use mathlib.Core.List.{List, [], _∷_}
 use Rattle.machine.specs.Place.{Place, single, place, sWord, lowWord, highWord}
-use Rattle.machine.proofs.Numbers.{low-index, high-index}
+use Rattle.registers.proofs.Halves.{low-index, high-index}
 use Rattle.meaning.specs.Map.{Map, known}
 use Rattle.meaning.specs.Step.{allKnown}
 use Rattle.place_marks.specs.Word.{mapIn}

@@ -1,8 +1,6 @@
 // The exported calls that run no word, over the buffers of the C interface: a machine is a state of 53 words, places 0 to 52 in order.
-pub mod grant;
 pub mod operation;
-pub mod register_sheet;
-mod result;
+pub mod result;
 
 ghost use mathlib.Core.Path.{_≡_};
 ghost use mathlib.Core.List.{[]};

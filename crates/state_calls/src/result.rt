@@ -4,7 +4,7 @@ ghost use Rattle.outcomes.specs.Outcome.{resultOf};
 use super::INVALID_ARGUMENT;
 
 // 0 for none, 100 + n for refusal n. Lists of unequal lengths are an invalid argument.
-pub(crate) fn of_refusal(refusal: u8) -> u32
+pub fn of_refusal(refusal: u8) -> u32
     ensures { λ r. ⌜ r ≡ resultOf refusal ⌝ }
 {
     if refusal == 0 {

@@ -11,7 +11,7 @@ use Rattle.numbers.specs.Arithmetic.{accumulates}
 use Rattle.numbers.specs.declared.arithmetic.Arithmetic.{Arithmetic}
 use Rattle.short_vectors.specs.Register.{wordsOf}
 use Rattle.arithmetic_steps.specs.Arithmetic.{operands}
-use Rattle.place_marks.specs.Register.{knownIn}
+use Rattle.register_marks.specs.Register.{knownIn}
 use Rattle.place_marks.specs.Word.{mapIn}
 use Rattle.place_marks.proofs.Places.{place-control}
 use Rattle.sources.specs.Source.{Picks}

@@ -7,15 +7,15 @@ use mathlib.Core.Logic.{_⊎_, inl, inr, ⊎-elim}
 use mathlib.Core.List.{List, [], _∷_, _++_}
 use lib.Ieee.{Format, binary32, binary64}
 use Rattle.machine.specs.Place.{Place, flags, exceptions, number, sWord, lowWord, highWord}
-use Rattle.machine.specs.Registers.{lowIndex, highIndex}
-use Rattle.machine.proofs.Numbers.{low-index, high-index}
+use Rattle.registers.specs.Registers.{lowIndex, highIndex}
+use Rattle.registers.proofs.Halves.{low-index, high-index}
 use Rattle.meaning.specs.Step.{Write}
 use Rattle.numbers.specs.declared.arithmetic.Arithmetic.{Arithmetic}
 use Rattle.short_vectors.specs.Register.{wordsOf, written}
 use Rattle.arithmetic_steps.specs.Arithmetic.{operands, arithmeticStep}
-use Rattle.steps.specs.Root.{rootStep}
-use Rattle.steps.specs.Sign.{signStep}
-use Rattle.steps.specs.declared.sign.SignOperation.{SignOperation}
+use Rattle.root_steps.specs.Root.{rootStep}
+use Rattle.sign_steps.specs.Sign.{signStep}
+use Rattle.sign_steps.specs.declared.sign.SignOperation.{SignOperation}
 use Rattle.chains.specs.Origin.{Present}
 use Rattle.sources.specs.Rule.{Outside, Rule, Copying}
 use Rattle.sources.proofs.Picking.{single-place, low-place, high-place}

@@ -7,10 +7,10 @@ ghost use Rattle.numbers.specs.declared.arithmetic.Arithmetic.{Arithmetic};
 ghost use Rattle.short_vectors.specs.Register.{wordsOf};
 ghost use Rattle.sources.specs.Source.{Picks};
 use machine::place::CONTROL;
-use machine::registers::Double;
-use machine::registers::Single;
 use place_marks::place::is_known;
-use place_marks::registers::double_known;
+use register_marks::register::double_known;
+use registers::registers::Double;
+use registers::registers::Single;
 
 pub fn of_double(marks: u64, x: Double) -> u32
     ensures { λ p. ⌜ Picks marks (wordsOf binary64 (x .0 ∷ [])) p ⌝ }

@@ -10,18 +10,18 @@ use lib.ListN.{length, getD, set, length-set}
 use lib.Seq.{getD-set-same, getD-set-other}
 use lib.Ieee.{Format, binary32, binary64}
 use borrow.Author.Tests.{lt-ltb, le-ltb}
-use Rattle.machine.specs.Place.{place, number}
+use Rattle.machine.specs.Place.{place}
 use Rattle.meaning.specs.Map.{Marks, Map, mapOf, known}
 use Rattle.meaning.specs.Step.{Step, Act, stepMarks, afterMarks, actMarks}
 use Rattle.meaning.proofs.Laws.{marks-none, marks-one}
 use Rattle.numbers.specs.declared.arithmetic.Arithmetic.{Arithmetic}
 use Rattle.arithmetic_steps.specs.Arithmetic.{arithmeticStep}
-use Rattle.steps.specs.declared.sign.SignOperation.{SignOperation}
-use Rattle.steps.specs.Sign.{signStep}
-use Rattle.steps.specs.Root.{rootStep}
+use Rattle.sign_steps.specs.declared.sign.SignOperation.{SignOperation}
+use Rattle.sign_steps.specs.Sign.{signStep}
+use Rattle.root_steps.specs.Root.{rootStep}
 use Rattle.short_vectors.specs.declared.vector.Vector.{Vector}
 use Rattle.short_vectors.specs.Vector.{bankOf, strideOf, stepOf, secondOf, precision, iterationsOf, Vectored, Steppable}
-use Rattle.decoding.specs.Fields.{regD, regN, regM}
+use Rattle.register_fields.specs.Fields.{regD, regN, regM}
 use Rattle.decoding.specs.Operation.{operationNumbered, arithmeticOf}
 use Rattle.chains.specs.Chain.{Pair}
 use Rattle.chains.specs.Origin.{Mapped}

@@ -1,5 +1,5 @@
 -- Stepping words by the number of their operation: 1 to 9 are arithmetic, 10 to 12 moves and sign changes, 13 is the root.
-use Prim.Native.Nat.{ℕ, _-_, _<_, _≤_}
+use Prim.Native.Nat.{ℕ, _-_, _<_}
 use mathlib.Core.Path.{_≡_}
 use mathlib.Core.Bool.{cond}
 use mathlib.Core.List.{List, [], _∷_}
@@ -9,10 +9,10 @@ use lib.Ieee.{Format}
 use Rattle.meaning.specs.Step.{Step, Act, afterMarks}
 use Rattle.short_vectors.specs.Vector.{bankOf, strideOf, stepOf, secondOf, iterationsOf}
 use Rattle.arithmetic_steps.specs.Arithmetic.{arithmeticStep}
-use Rattle.steps.specs.Sign.{signStep}
-use Rattle.steps.specs.Root.{rootStep}
-use Rattle.steps.specs.declared.sign.SignOperation.{SignOperation}
-use Rattle.steps.specs.declared.sign.SignOperation.the-variants.{Copy, Absolute, Negate}
+use Rattle.sign_steps.specs.Sign.{signStep}
+use Rattle.root_steps.specs.Root.{rootStep}
+use Rattle.sign_steps.specs.declared.sign.SignOperation.{SignOperation}
+use Rattle.sign_steps.specs.declared.sign.SignOperation.the-variants.{Copy, Absolute, Negate}
 use Rattle.decoding.specs.Operation.{operationNumbered, arithmeticOf}
 use Rattle.place_marks.specs.Word.{mapIn}
 

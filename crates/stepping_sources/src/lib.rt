@@ -4,7 +4,7 @@ mod vector;
 
 ghost use Prim.Native.Nat.{_+_, _*_, _≤_};
 ghost use lib.ListN.{length};
-ghost use Rattle.decoding.specs.Fields.{regD, regN, regM};
+ghost use Rattle.register_fields.specs.Fields.{regD, regN, regM};
 ghost use Rattle.short_vectors.specs.Vector.{precision};
 ghost use Rattle.links.specs.Walked.{WalkedAct};
 ghost use Rattle.stepping_sources.specs.Stepping.{steppingAct};

@@ -2,21 +2,21 @@
 ghost use mathlib.Core.Path.{_≡_};
 ghost use Prim.Native.Nat.{ℕ, _+_, _*_, _<_, _≤_};
 ghost use lib.ListN.{length};
-ghost use Rattle.decoding.specs.Fields.{regD, regN, regM};
+ghost use Rattle.register_fields.specs.Fields.{regD, regN, regM};
 ghost use Rattle.short_vectors.specs.Vector.{precision, iterationsOf};
 ghost use Rattle.links.specs.Walked.{WalkedAct};
 ghost use Rattle.stepping_sources.specs.Stepping.{steppingAct, Befores};
 use super::iteration::marks_by;
 use super::iteration::move_by;
 use super::iteration::number_by;
-use decoding::fields::double_d;
-use decoding::fields::double_m;
-use decoding::fields::double_n;
-use decoding::fields::single_d;
-use decoding::fields::single_m;
-use decoding::fields::single_n;
 use links::Back;
 use links::link;
+use register_fields::fields::double_d;
+use register_fields::fields::double_m;
+use register_fields::fields::double_n;
+use register_fields::fields::single_d;
+use register_fields::fields::single_m;
+use register_fields::fields::single_n;
 use short_vectors::vector::Vector;
 
 // How many iterations a stepping word makes.

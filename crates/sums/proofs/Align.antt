@@ -2,7 +2,7 @@
 use mathlib.Core.Path.{_≡_, refl, sym, ap, _∙_, subst}
 use mathlib.Core.Logic.{_⊎_, inl, inr}
 use Prim.Native.Nat.{ℕ, zero, suc, _+_, _-_, _*_, _/_, _%_, _^_, _≤_, _<_, min}
-use native.Mathlib.Nat.{le-trans, le-of-eq, lt-of-lt-of-le, lt-of-le-of-lt, le-of-lt, lt-of-not-le, mul-assoc, add-mul, add-assoc, suc-mul, mod-lt, mod-le, mod-eq-of-lt, mul-mod-left, div-add-mod', div-eq-of-lt, div-div-eq-div-mul, div-le-self, div-mul-le-self, min-eq-left, min-eq-right, mul-le-mul-left, mul-le-mul-right, le-of-mul-le-mul-right, lt-of-mul-lt-mul-right, add-zero, sub-zero}
+use native.Mathlib.Nat.{le-trans, le-of-eq, lt-of-lt-of-le, lt-of-le-of-lt, le-of-lt, lt-of-not-le, mul-assoc, add-mul, add-assoc, suc-mul, mod-lt, mod-le, mod-eq-of-lt, mul-mod-left, div-add-mod', div-eq-of-lt, div-div-eq-div-mul, div-le-self, div-mul-le-self, min-eq-left, min-eq-right, le-of-mul-le-mul-right, lt-of-mul-lt-mul-right, add-zero, sub-zero}
 use native.Mathlib.Decide.{decLe}
 use native.Mathlib.Omega.{arith}
 use lib.Dec.{lit≤}

@@ -2,7 +2,7 @@
 // for what falls off; then the digits are added, or subtracted where the signs are unlike.
 ghost use mathlib.Core.Path.{_≡_};
 ghost use mathlib.Core.Bool.{cond};
-ghost use Prim.Native.Nat.{_+_, _*_, _%_, _≤_, _<_, _^_};
+ghost use Prim.Native.Nat.{_*_, _%_, _≤_, _<_, _^_};
 ghost use lib.Ieee.{binary32, binary64};
 ghost use Rattle.rounding.specs.declared.rounding.Rounding.{Rounding};
 ghost use Rattle.operators.specs.Operators.{zeroSign, sum};

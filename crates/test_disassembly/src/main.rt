@@ -3,7 +3,7 @@
 ghost use mathlib.Core.Path.{_≡_};
 ghost use Prim.Native.Nat.{_<_};
 ghost use Rattle.decoding.specs.Table.{operationTable};
-use decoding::table::operations;
+use decode_table::table::operations;
 use disassembly::line::line;
 use libc::STDOUT_FILENO;
 use std::num::wrapping_add_u32;

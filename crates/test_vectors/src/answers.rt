@@ -1,25 +1,25 @@
 // The functions on numbers by number, on words of up to 64 bits.
-use directed::directed::directed32;
-use directed::directed::directed64;
+use comparisons::compare::Compared;
+use comparisons::compare::compare32;
+use comparisons::compare::compare64;
+use directed_doubles::double::directed64;
+use directed_singles::single::directed32;
 use exceptions::exceptions::Raised32;
 use exceptions::exceptions::Raised64;
 use integers::integer::from_integer32;
 use integers::integer::from_integer64;
-use integers::integer::to_integer32;
-use integers::integer::to_integer64;
+use narrowing::narrow::narrow;
 use numbers::arithmetic::Arithmetic;
 use numbers::arithmetic::reads_d;
-use numbers::compare::Compared;
-use numbers::compare::compare32;
-use numbers::compare::compare64;
 use quiet::quick::quick32;
 use quiet::quick::quick64;
-use roots::root::quick_root32;
-use roots::root::quick_root64;
-use roots::root::square_root32;
-use roots::root::square_root64;
 use rounding::rounding::rounding_of;
-use widths::convert::narrow;
+use square_roots::word::quick_root32;
+use square_roots::word::quick_root64;
+use square_roots::word::square_root32;
+use square_roots::word::square_root64;
+use to_integers::to::to_integer32;
+use to_integers::to::to_integer64;
 use widths::convert::widen;
 
 // A line's work: the operation's number, the control word, the operands and the old d.

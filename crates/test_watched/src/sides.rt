@@ -7,7 +7,6 @@ use machine::place::CORE;
 use machine::place::EXC;
 use machine::place::EXCEPTIONS;
 use machine::place::FLAGS;
-use machine::place::NZCV;
 use machine::place::WINDOW;
 use run_word::Stop;
 use watch::watch;

@@ -1,6 +1,6 @@
 -- A text that grows piece by piece.
 use Prim.Native.Nat.{ℕ}
-use mathlib.Core.Path.{_≡_, refl, sym, _∙_, ap}
+use mathlib.Core.Path.{_≡_, _∙_, ap}
 use mathlib.Core.List.{List, [], _++_}
 use Rattle.text.specs.Text.{clip}
 use Rattle.text.proofs.Clipping.{clip-clip}

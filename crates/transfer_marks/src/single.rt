@@ -9,11 +9,11 @@ ghost use Rattle.transfers.specs.Transfer.{singleTree};
 ghost use Rattle.place_marks.specs.Word.{mapIn};
 use bits::field::bit;
 use bits::field::bits;
-use machine::registers::Single;
-use place_marks::registers::core_known;
-use place_marks::registers::mark_core;
-use place_marks::registers::mark_single;
-use place_marks::registers::single_known;
+use register_marks::register::core_known;
+use register_marks::register::mark_core;
+use register_marks::register::mark_single;
+use register_marks::register::single_known;
+use registers::registers::Single;
 
 pub fn mark_single_core(marks: u64, sn: Single, op: u32) -> u64
     ensures { λ y. ⌜ ((thumb : Bool) (st : State) (w : List ℕ) → mapIn y w ≡ marked (singleTree thumb (sn .0) op) st (mapIn marks w)) ⌝ }

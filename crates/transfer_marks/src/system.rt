@@ -16,8 +16,8 @@ use machine::place::FLAGS;
 use machine::place::NZCV;
 use place_marks::place::is_known;
 use place_marks::place::set_known;
-use place_marks::registers::core_known;
-use place_marks::registers::mark_core;
+use register_marks::register::core_known;
+use register_marks::register::mark_core;
 
 pub fn mark_system(marks: u64, op: u32) -> u64
     ensures { λ y. ⌜ ((st : State) (w : List ℕ) → mapIn y w ≡ marked (systemTree op) st (mapIn marks w)) ⌝ }

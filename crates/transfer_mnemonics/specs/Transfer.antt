@@ -6,7 +6,7 @@ use lib.Dec.{eqb}
 use lib.Ieee.{Format, binary32, binary64}
 use Rattle.bits.specs.Field.{field, bitOf}
 use Rattle.numerals.specs.Number.{decimalText}
-use Rattle.decoding.specs.Fields.{regN}
+use Rattle.register_fields.specs.Fields.{regN}
 use Rattle.transfers.specs.declared.Transfer.{Transfer}
 use Rattle.transfers.specs.declared.Transfer.the-variants.{System, Single, Nothing}
 use Rattle.transfers.specs.Transfer.{highHalf, transferOf}

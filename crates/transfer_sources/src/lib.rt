@@ -8,7 +8,7 @@ ghost use Rattle.transfers.specs.Transfer.{transferTree, singleTree};
 use bits::field::bit;
 use bits::field::bits;
 use machine::place::CORE;
-use machine::registers::Single;
+use registers::registers::Single;
 use sources::Source;
 use system::system_source;
 use transfers::Transfer;

@@ -1,11 +1,11 @@
 -- The meaning of a register transfer (vfp.rs `coprocessor_register`; the high halves of doubles are the manual's). Bits 11:8 are looked at for opc1 1
 -- alone.
-use Prim.Native.Nat.{ℕ, _+_, _*_, _/_, _%_, _^_}
+use Prim.Native.Nat.{ℕ, _+_, _*_, _/_, _^_}
 use mathlib.Core.Bool.{Bool, true, false, cond, _&&_}
 use mathlib.Core.List.{[], _∷_}
 use lib.Dec.{eqb}
 use Rattle.bits.specs.Field.{field, bitOf}
-use Rattle.machine.specs.Registers.{sregOf, highIndex}
+use Rattle.registers.specs.Registers.{sregOf, highIndex}
 use Rattle.machine.specs.Place.{Place, core, flags, control, exc, nzcv, exceptions, controlOf, exceptionsOf, sWord}
 use Rattle.meaning.specs.Step.{Write, Step, fst, snd, rest, copy, constant, once, nothing}
 use Rattle.meaning.specs.Tree.{Tree, Next, on, last, go, branch}

@@ -11,8 +11,8 @@ ghost use Rattle.meaning.specs.Tree.{out, plain};
 ghost use Rattle.transfers.specs.Transfer.{afterTransfer, highHalf, transferOf, transferTree};
 use bits::field::bits;
 use machine::Controls;
-use machine::registers::Single;
-use machine::registers::sreg;
+use registers::registers::Single;
+use registers::registers::sreg;
 
 // Which transfer a word is: of a system register, of a single by its number, or none, which does nothing.
 pub enum Transfer {

@@ -10,9 +10,9 @@ ghost use Rattle.meaning.specs.Tree.{out, plain};
 ghost use Rattle.transfers.specs.Transfer.{afterTransfer, target, singleTree};
 use bits::field::bit;
 use bits::field::bits;
-use machine::registers::Single;
-use machine::registers::get_single;
-use machine::registers::set_single;
+use registers::registers::Single;
+use registers::registers::get_single;
+use registers::registers::set_single;
 
 // Whether it branched: r15 is written through `branch`.
 pub fn single_core(s: &mut [u32; 32], r: &mut [u32; 16], thumb: bool, sn: Single, op: u32) -> bool

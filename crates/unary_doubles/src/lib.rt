@@ -5,21 +5,21 @@ ghost use lib.Ieee.{binary64};
 ghost use Rattle.decoding.specs.Operation.{numberOf};
 ghost use Rattle.processing.specs.Data.{Handled, namedTree};
 ghost use Rattle.processing.specs.declared.Processed.the-variants.{Done};
-use conversions::integer::from_integer_double;
-use conversions::integer::round_double;
-use conversions::integer::truncate_double;
-use conversions::width::narrow_double;
-use decoding::fields::double_d;
-use decoding::fields::double_m;
-use decoding::fields::single_d;
-use decoding::fields::single_m;
+use compare_steps::compare::compare_double;
+use compare_steps::compare::compare_double_zero;
 use decoding::operation::Operation;
+use integer_steps::integer::from_integer_double;
+use integer_steps::integer::round_double;
+use integer_steps::integer::truncate_double;
 use machine::place::control_of;
-use steps::compare::compare_double;
-use steps::compare::compare_double_zero;
-use steps::root::root_double;
-use steps::sign::SignOperation;
-use steps::sign::sign_double;
+use register_fields::fields::double_d;
+use register_fields::fields::double_m;
+use register_fields::fields::single_d;
+use register_fields::fields::single_m;
+use root_steps::root::root_double;
+use sign_steps::sign::SignOperation;
+use sign_steps::sign::sign_double;
+use width_steps::width::narrow_double;
 
 // FPSCR after a unary operation, a compare or a conversion.
 pub fn unary_double(s: &mut [u32; 32], fpscr: u32, op: u32, o: Operation) -> u32

@@ -5,20 +5,20 @@ ghost use lib.Ieee.{binary32};
 ghost use Rattle.decoding.specs.Operation.{numberOf};
 ghost use Rattle.processing.specs.Data.{Handled, namedTree};
 ghost use Rattle.processing.specs.declared.Processed.the-variants.{Done};
-use conversions::integer::from_integer_single;
-use conversions::integer::round_single;
-use conversions::integer::truncate_single;
-use conversions::width::widen_single;
-use decoding::fields::double_d;
-use decoding::fields::single_d;
-use decoding::fields::single_m;
+use compare_steps::compare::compare_single;
+use compare_steps::compare::compare_single_zero;
 use decoding::operation::Operation;
+use integer_steps::integer::from_integer_single;
+use integer_steps::integer::round_single;
+use integer_steps::integer::truncate_single;
 use machine::place::control_of;
-use steps::compare::compare_single;
-use steps::compare::compare_single_zero;
-use steps::root::root_single;
-use steps::sign::SignOperation;
-use steps::sign::sign_single;
+use register_fields::fields::double_d;
+use register_fields::fields::single_d;
+use register_fields::fields::single_m;
+use root_steps::root::root_single;
+use sign_steps::sign::SignOperation;
+use sign_steps::sign::sign_single;
+use width_steps::width::widen_single;
 
 // FPSCR after a unary operation, a compare or a conversion.
 pub fn unary_single(s: &mut [u32; 32], fpscr: u32, op: u32, o: Operation) -> u32

@@ -8,7 +8,7 @@ use borrow.Author.Tests.{ne-eqb}
 use Rattle.machine.specs.declared.Machine.{Machine}
 use Rattle.machine.specs.Machine.{withS, withFpscr}
 use Rattle.machine.specs.Place.{State, state, core}
-use Rattle.meaning.specs.Stop.{finished, undefined, branched, refused, report}
+use Rattle.meaning.specs.Stop.{finished, undefined, refused, report}
 use Rattle.meaning.specs.Tree.{Tree, Out, out, on, exitOf, plain}
 use Rattle.meaning.proofs.Laws.{plain-stop, plain-ask}
 use Rattle.processing.specs.declared.Processed.{Processed}

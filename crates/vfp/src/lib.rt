@@ -31,7 +31,7 @@ pub fn data_processing(machine: Machine, op: u32) -> Answer
 {
     let mut next = machine;
     let fpscr = machine.fpscr;
-    let done = processing::data_processing(&mut next.s, fpscr, op);
+    let done = data_processing::word::data_processing(&mut next.s, fpscr, op);
     match done {
         Processed::Done(after) => {
             next.fpscr = after;
@@ -108,7 +108,7 @@ pub fn coprocessor_load_store(machine: Machine, window: &mut [u32], base: u32, o
     }
     let mut s = machine.s;
     let mut r = machine.r;
-    memory::coprocessor_load_store(&mut s, &mut r, window, base, op);
+    load_stores::access::coprocessor_load_store(&mut s, &mut r, window, base, op);
     let cpsr = machine.cpsr;
     Answer {
         exit: Exit::Nothing,

@@ -7,7 +7,7 @@ use mathlib.Core.List.{List, [], _∷_, _++_}
 use lib.ListN.{length, getD, length-append}
 use Rattle.bits.specs.Field.{field}
 use Rattle.bits.specs.Psr.{holds}
-use Rattle.machine.specs.Place.{Place, State, place, number}
+use Rattle.machine.specs.Place.{State, place}
 use Rattle.meaning.specs.Map.{Map, known}
 use Rattle.meaning.specs.Step.{Act, actMarks}
 use Rattle.meaning.specs.Tree.{watched}
@@ -18,8 +18,8 @@ use Rattle.chains.specs.Steps.{actOf}
 use Rattle.chains.specs.Chain.{Pair, Way}
 use Rattle.chains.proofs.Laws.{nothing-way, nothing-marks}
 use Rattle.links.specs.declared.Back.{Back}
-use Rattle.links.specs.Pairs.{withPair, laid, Turned}
-use Rattle.links.specs.Walked.{WalkedIf, Walked}
+use Rattle.links.specs.Pairs.{laid, Turned}
+use Rattle.links.specs.Walked.{Walked}
 use Rattle.links.proofs.Laid as Laid
 use Rattle.links.proofs.Walking.{walked-none}
 use Rattle.reached.specs.Point.{Point, pointAt, seenAt, actAt, Goes, Ran}

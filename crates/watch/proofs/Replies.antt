@@ -12,8 +12,8 @@ use Rattle.machine.specs.declared.Controls.{Controls}
 use Rattle.machine.specs.Machine.{assembled, controlsOf}
 use Rattle.machine.specs.Place.{state, before}
 use Rattle.meaning.specs.Map.{Map}
-use Rattle.limits.specs.Marks.{onesOf}
-use Rattle.limits.proofs.Ones.{ones-le}
+use Rattle.window_marks.specs.Marks.{onesOf}
+use Rattle.window_marks.proofs.Ones.{ones-le}
 use Rattle.place_marks.specs.Word.{marksOf, mapIn}
 use Rattle.known_places.specs.Count.{knownBefore, knownPlaces}
 use Rattle.known_places.proofs.Count.{places-counted}

@@ -7,17 +7,16 @@ ghost use Rattle.machine.specs.Place.{state, before};
 ghost use Rattle.machine.specs.Machine.{assembled};
 ghost use Rattle.meaning.specs.Run as R;
 ghost use Rattle.decoding.specs.Table.{operationTable};
-ghost use Rattle.limits.specs.Marks.{onesOf};
+ghost use Rattle.window_marks.specs.Marks.{onesOf};
 ghost use Rattle.place_marks.specs.Word.{marksOf, mapIn};
 ghost use Rattle.known_places.specs.Count.{knownBefore, knownPlaces};
 ghost use Rattle.word_class.specs.Word.{meaning};
 ghost use Rattle.run_log.specs.Log.{Logged};
 ghost use Rattle.watch.specs.Watch.{answered, reply};
 ghost use Rattle.watch.specs.Promise.{Promise, WordPromise};
-use decoding::table::operations;
+use decode_table::table::operations;
 use known_places::known_before;
 use limits::limit::watch_limit;
-use limits::marks::count_ones;
 use machine::Machine;
 use progress::Progress;
 use run_log::log_word;
@@ -25,6 +24,7 @@ use run_word::Next;
 use run_word::Stop;
 use run_word::word::advance;
 use watch_word::word::watch_word;
+use window_marks::marks::count_ones;
 
 // The stop, how many words were counted, the machine and the marks handed back, and how many places are known.
 pub struct Watched {

@@ -1,14 +1,14 @@
 -- The enable bit, through the definition: words of every class and the exempt transfers, with FPEXC unknown, clear in bit 30 alone, and set in it alone.
 use Prim.Native.Nat.{ℕ, _-_, _^_}
 use mathlib.Core.Path.{_≡_, refl}
-use mathlib.Core.Bool.{Bool, true, false}
+use mathlib.Core.Bool.{true, false}
 use mathlib.Core.List.{List, [], _∷_, map}
 use lib.ListN.{replicate}
 use Rattle.machine.specs.Machine.{newMachine, withFpexc}
 use Rattle.machine.specs.Place.{State, place, state}
 use Rattle.meaning.specs.Map.{Map, mapOf, mark}
 use Rattle.meaning.specs.Stop.{undefined, hangs}
-use Rattle.meaning.specs.Tree.{Seen, seen, Next, on, halt, watched}
+use Rattle.meaning.specs.Tree.{Seen, seen, Next, halt, watched}
 use Rattle.word_class.specs.Word.{exempt, enabled, conditioned, meaning}
 use Rattle.transfers.specs.Transfer.{transferTree}
 

@@ -14,7 +14,7 @@ use Rattle.meaning.specs.Tree.{watched}
 use Rattle.processing.specs.Data.{operationTree, dataTree}
 use Rattle.decoding.specs.Operation.{extensionBy, arithmetics, operationBy, operationOf}
 use Rattle.short_vectors.specs.Vector.{stepOf, secondOf}
-use Rattle.limits.specs.Marks.{bitsOnly}
+use Rattle.window_marks.specs.Marks.{bitsOnly}
 use Rattle.limits.specs.Limit.{windowLimit, runLimit, watchLimit}
 use Rattle.word_class.specs.Word.{classTree, exempt, enabled, conditioned, meaning}
 use Rattle.transfers.specs.Transfer.{transferTree}

@@ -4,13 +4,12 @@ ghost use mathlib.Core.Bool.{true, false};
 ghost use mathlib.Core.List.{List};
 ghost use Prim.Native.Nat.{ℕ, _/_, _%_, _^_, _<_};
 ghost use Rattle.bits.specs.Field.{field};
-ghost use Rattle.machine.specs.declared.Controls.{Controls};
 ghost use Rattle.machine.specs.Machine.{assembled};
 ghost use Rattle.machine.specs.Place.{state, control};
 ghost use Rattle.meaning.specs.Map.{known};
 ghost use Rattle.meaning.specs.Tree.{seen, watched};
 ghost use Rattle.place_marks.specs.Word.{mapIn};
-ghost use Rattle.limits.specs.Marks.{onesOf};
+ghost use Rattle.window_marks.specs.Marks.{onesOf};
 ghost use Rattle.decoding.specs.Operation.{operationOf, numberOf};
 ghost use Rattle.decoding.specs.Table.{operationTable};
 ghost use Rattle.processing.specs.Data.{dataTree};
@@ -19,14 +18,14 @@ ghost use Rattle.transfers.specs.Transfer.{transferTree};
 ghost use Rattle.word_class.specs.Word.{meaning};
 ghost use Rattle.run_word.specs.Stop.{nextOf};
 ghost use Rattle.run_word.specs.declared.Next.the-variants.{On};
+use access_hangs::access::hang_access;
 use access_marks::watched_load_store;
 use bits::field::bit;
+use data_hangs::data::hang_data;
 use data_marks::mark_data;
+use decode_table::table::number;
 use decoding::operation::numbered;
-use decoding::table::number;
 use hangs::Hang;
-use hangs::access::hang_access;
-use hangs::data::hang_data;
 use machine::Controls;
 use machine::place::CONTROL;
 use place_marks::place::is_known;
@@ -198,7 +197,7 @@ fn watch_data(
         },
         Hang::Clear => {
             let known = mark_data(marks, x.fpscr, o, op);
-            let after = processing::process(s, x.fpscr, o, op);
+            let after = data_processing::word::process(s, x.fpscr, o, op);
             match after {
                 Processed::Done(fpscr) => done(x, fpscr, known),
                 Processed::Undefined => {

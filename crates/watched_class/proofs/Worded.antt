@@ -7,8 +7,8 @@ use Rattle.bits.specs.Psr.{holds}
 use Rattle.bits.proofs.Flags.{psr-nzcv}
 use Rattle.machine.specs.Place.{State, nzcv, number}
 use Rattle.meaning.specs.Map.{Map, known}
-use Rattle.meaning.specs.Step.{nothing, after, afterMarks}
-use Rattle.meaning.specs.Tree.{Tree, stop, go, Next, on, halt, out, plain, Seen, seen, watched}
+use Rattle.meaning.specs.Step.{after, afterMarks}
+use Rattle.meaning.specs.Tree.{Tree, stop, Next, on, halt, out, plain, Seen, seen, watched}
 use Rattle.meaning.specs.Hang.{clear, at, hangOf, marked}
 use Rattle.meaning.proofs.Laws.{split-clear, split-at}
 use Rattle.word_class.specs.Word.{conditioned}

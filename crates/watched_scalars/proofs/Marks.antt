@@ -11,15 +11,15 @@ use Rattle.meaning.specs.Step.{Step}
 use Rattle.meaning.specs.Tree.{Tree}
 use Rattle.numbers.specs.declared.arithmetic.Arithmetic.{Arithmetic}
 use Rattle.arithmetic_steps.specs.Arithmetic.{arithmeticStep}
-use Rattle.steps.specs.declared.sign.SignOperation.{SignOperation}
-use Rattle.steps.specs.Sign.{signStep}
-use Rattle.steps.specs.Root.{rootStep}
+use Rattle.sign_steps.specs.declared.sign.SignOperation.{SignOperation}
+use Rattle.sign_steps.specs.Sign.{signStep}
+use Rattle.root_steps.specs.Root.{rootStep}
 use Rattle.short_vectors.specs.Vector.{iterationsOf, monadicStep}
 use Rattle.short_vectors.proofs.Loop.{once-only}
 use Rattle.decoding.specs.declared.operation.Operation.{Operation}
 use Rattle.decoding.specs.declared.operation.Operation.the-variants.{Fsqrt}
 use Rattle.decoding.proofs.operation.Operation.{the-type}
-use Rattle.decoding.specs.Fields.{regD, regN, regM}
+use Rattle.register_fields.specs.Fields.{regD, regN, regM}
 use Rattle.decoding.specs.Operation.{operationNumbered, arithmeticOf}
 use Rattle.processing.specs.Data.{namedTree, Handled}
 use Rattle.processing.specs.declared.Processed.the-variants.{Done}

@@ -6,20 +6,20 @@ ghost use Rattle.decoding.specs.Operation.{operationNumbered};
 ghost use Rattle.processing.specs.Data.{Handled, namedTree};
 ghost use Rattle.processing.specs.declared.Processed.the-variants.{Done};
 ghost use Rattle.processing_marks.specs.Marked.{Marked};
-use arithmetic_steps::arithmetic::quick_double;
-use arithmetic_steps::arithmetic::quick_single;
-use arithmetic_steps::arithmetic::rounded_double;
-use arithmetic_steps::arithmetic::rounded_single;
-use decoding::fields::double_d;
-use decoding::fields::double_m;
-use decoding::fields::double_n;
-use decoding::fields::single_d;
-use decoding::fields::single_m;
-use decoding::fields::single_n;
+use arithmetic_marks::arithmetic::mark_sum_double;
+use arithmetic_marks::arithmetic::mark_sum_single;
 use decoding::operation::arithmetic_of;
 use decoding::operation::numbered;
-use processing_marks::vector::mark_sum_double;
-use processing_marks::vector::mark_sum_single;
+use double_arithmetic::double::quick_double;
+use double_arithmetic::double::rounded_double;
+use register_fields::fields::double_d;
+use register_fields::fields::double_m;
+use register_fields::fields::double_n;
+use register_fields::fields::single_d;
+use register_fields::fields::single_m;
+use register_fields::fields::single_n;
+use single_arithmetic::single::quick_single;
+use single_arithmetic::single::rounded_single;
 
 // FPSCR and the marks after a word.
 pub struct Watched {

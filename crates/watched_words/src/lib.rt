@@ -12,20 +12,20 @@ ghost use Rattle.meaning.specs.Step.{after, afterMarks};
 ghost use Rattle.addresses.specs.Contiguous.{Contiguous};
 ghost use Rattle.memory.specs.LoadStore.{accessAt};
 ghost use Rattle.place_marks.specs.Word.{mapIn};
-ghost use Rattle.limits.specs.Marks.{onesOf};
+ghost use Rattle.window_marks.specs.Marks.{onesOf};
 use addresses::contiguous::is_contiguous;
 use bits::field::bit;
 use block_marks::mark_block_load;
 use block_marks::mark_block_store;
 use known_places::ones_after;
 use machine::address::plus;
-use machine::registers::Single;
 use memory::words::move_block;
 use memory::words::move_each;
-use place_marks::registers::mark_single;
-use place_marks::registers::single_known;
 use place_marks::window::mark_word;
 use place_marks::window::word_known;
+use register_marks::register::mark_single;
+use register_marks::register::single_known;
+use registers::registers::Single;
 
 // The words and their marks, by bit 20 of the word loaded or stored. Only a store moves the number of ones among the window's marks.
 pub fn watched_words(

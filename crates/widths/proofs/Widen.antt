@@ -11,7 +11,6 @@ use lib.Ieee.{Float, binary32, binary64, low, top, ofBits, toBits}
 use lib.Ieee.Exact.{HasValue}
 use Rattle.rounding.specs.Lift.{Lifted}
 use Rattle.floats.proofs.Units.{writes, reads-low, reads-mid, reads-inf, rescale, slide, sign-bit}
-use Rattle.floats.proofs.Patterns.{nan-of-fields}
 use Rattle.nans.specs.Nan.{resized}
 use Rattle.nans.proofs.Choosing.{no-nan, a-nan}
 use Rattle.widths.specs.Convert.{widenNumber, widen}
@@ -33,10 +32,6 @@ signed-is b h = sign-bit 0x8000_0000 b 0x8000_0000_0000_0000 (lit< tt) h
 pub wide-inf : (b : ℕ) → b < 2 ^ 32 → b % 0x8000_0000 / 0x80_0000 ≡ 255 → b % 0x80_0000 ≡ 0 → signed b + 0x7FF0_0000_0000_0000 ≡ toBits binary64 (ofBits binary32 b)
 unfolding toBits
 wide-inf b h x t = ap (λ (y : ℕ). y + 0x7FF0_0000_0000_0000) (signed-is b h) ∙ sym (ap (toBits binary64) (reads-inf binary32 b x t))
-
-pub wide-nan : (b : ℕ) → b % 0x8000_0000 / 0x80_0000 ≡ 255 → (b % 0x80_0000 ≡ 0 → ⊥) → 0x7FF8_0000_0000_0000 ≡ toBits binary64 (ofBits binary32 b)
-unfolding toBits
-wide-nan b x t = sym (ap (toBits binary64) (nan-of-fields binary32 b x t))
 
 -- a normal value: 29 more digits, and the exponents' fields are 896 apart
 digits-lt : (t : ℕ) → t < 0x80_0000 → (0x80_0000 + t) * 0x2000_0000 < 0x20_0000_0000_0000

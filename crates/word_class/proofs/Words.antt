@@ -1,45 +1,21 @@
 -- Which meaning a word has, by the tests that the code makes, and what the leaves' promises come to.
-use Prim.Native.Nat.{ℕ, _+_, _-_, _%_, _^_, _<_}
+use Prim.Native.Nat.{ℕ, _%_, _^_, _<_}
 use native.Mathlib.Omega.{arith}
 use native.Mathlib.Decide.{ℕ-discrete}
-use mathlib.Core.Path.{_≡_, refl, sym, _∙_, subst, ap}
+use mathlib.Core.Path.{_≡_, refl, sym, _∙_, ap}
 use mathlib.Core.Bool.{Bool, true, false, cond, not, _||_}
-use mathlib.Core.List.{List}
 use lib.Dec.{eqb, leb, ltb}
-use lib.ListN.{getD}
 use borrow.Author.Tests.{eqb-true, eq-eqb, ne-eqb, le-leb, lt-leb, lt-ltb, le-ltb}
-use Rattle.bits.specs.Field.{field, bitOf}
+use Rattle.bits.specs.Field.{field}
 use Rattle.bits.specs.Psr.{holds, psrOf}
 use Rattle.bits.proofs.Flags.{psr-nzcv}
 use mathlib.Core.Bool.{true≢false}
-use Rattle.machine.specs.declared.Controls.{Controls}
-use Rattle.machine.specs.Machine.{assembled}
-use Rattle.machine.specs.Place.{State, state, core, nzcv}
+use Rattle.machine.specs.Place.{State, nzcv}
 use Rattle.meaning.specs.Step.{nothing}
-use Rattle.meaning.specs.Tree.{Tree, stop, go, ask, Out, out, on, halt, plain}
-use Rattle.meaning.proofs.Laws.{plain-stop, plain-ask, plain-nothing}
-use Rattle.memory.specs.LoadStore.{loadStoreTree}
-use Rattle.processing.specs.declared.Processed.{Processed}
-use Rattle.processing.specs.declared.Processed.the-variants.{Done, Undefined}
-use Rattle.processing.specs.Data.{dataTree, Handled}
-use Rattle.transfers.specs.Transfer.{transferTree}
+use Rattle.meaning.specs.Tree.{Tree, stop, go, ask, Out, out, on, plain}
+use Rattle.meaning.proofs.Laws.{plain-ask, plain-nothing}
 use Rattle.word_class.specs.Word.{foreignWord, classTree, enabled, conditioned, meaning}
 use Rattle.meaning.specs.Stop as S
-
--- ---- the class
-
-module _ (base w : ℕ) (k : ℕ) (p : k ≡ field w 25 27) where
-  pub class-load : k ≡ 6 → classTree base w ≡ loadStoreTree base w
-  unfolding classTree
-  class-load e = rw (← p, e)
-
-  pub class-transfer : (k ≡ 6 → ⊥) → (b : Bool) → b ≡ bitOf w 4 → b ≡ true → classTree base w ≡ transferTree false w
-  unfolding classTree
-  class-transfer n b q e = rw (← p, ne-eqb _ _ n, ← q, e)
-
-  pub class-data : (k ≡ 6 → ⊥) → (b : Bool) → b ≡ bitOf w 4 → b ≡ false → classTree base w ≡ dataTree false w
-  unfolding classTree
-  class-data n b q e = rw (← p, ne-eqb _ _ n, ← q, e)
 
 -- ---- Foreign by the code's four tests
 

@@ -1,16 +1,14 @@
 -- From a word of a class to its tree.
 use Prim.Native.Nat.{ℕ, _+_, _≤_}
 use native.Mathlib.Omega.{arith}
-use mathlib.Core.Path.{_≡_, refl, ap, sym, _∙_, subst}
-use mathlib.Core.Bool.{Bool, true, false, cond}
+use mathlib.Core.Path.{_≡_, refl, sym, _∙_, subst}
+use mathlib.Core.Bool.{Bool, true, false}
 use mathlib.Core.List.{List, []}
 use lib.Dec.{eqb}
 use borrow.Author.Tests.{eq-eqb, ne-eqb}
 use Rattle.bits.specs.Field.{field, bitOf}
 use Rattle.machine.specs.Machine.{newMachine, withFpscr}
-use Rattle.machine.specs.Place.{State, state, core, get, place}
-use Rattle.meaning.specs.Map.{known}
-use Rattle.meaning.specs.Step.{actMarks}
+use Rattle.machine.specs.Place.{State, state, core, get}
 use Rattle.meaning.specs.Tree.{Tree}
 use Rattle.meaning.specs.Hang.{clear, hangOf}
 use Rattle.memory.specs.LoadStore.{loadStoreTree}
@@ -18,10 +16,9 @@ use Rattle.transfers.specs.Transfer.{transferTree}
 use Rattle.processing.specs.Data.{dataTree}
 use Rattle.word_class.specs.Word.{classTree}
 use Rattle.chains.specs.Steps.{actOf}
-use Rattle.place_marks.specs.Word.{mapIn}
 use Rattle.sources.specs.declared.Source.{Source}
 use Rattle.sources.specs.declared.Source.the-variants.{Kept, From}
-use Rattle.sources.specs.Source.{Led, Leading}
+use Rattle.sources.specs.Source.{Leading}
 use Rattle.access_sources.specs.Moved.{LeadingClear}
 use Rattle.links.specs.declared.Back.{Back}
 use Rattle.links.specs.Pairs.{backOf, linkedIn}

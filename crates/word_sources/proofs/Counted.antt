@@ -3,7 +3,7 @@ use Prim.Native.Nat.{ℕ}
 use native.Mathlib.Omega.{arith}
 use mathlib.Core.Path.{_≡_, refl, ap, sym, _∙_, subst}
 use mathlib.Core.Bool.{Bool, true, false, cond, true≢false}
-use mathlib.Core.Logic.{_⊎_, inl, inr}
+use mathlib.Core.Logic.{inl, inr}
 use lib.Dec.{eqb}
 use borrow.Author.Tests.{eqb-true}
 use Rattle.bits.specs.Field.{field, bitOf}
@@ -11,10 +11,10 @@ use Rattle.bits.specs.Psr.{holds, psrOf}
 use Rattle.bits.proofs.Flags.{psr-nzcv}
 use Rattle.machine.specs.Place.{Place, State, core, exc, nzcv, get, number}
 use Rattle.meaning.specs.Map.{Map, known}
-use Rattle.meaning.specs.Step.{Act, nothing}
+use Rattle.meaning.specs.Step.{nothing}
 use Rattle.meaning.specs.Stop.{Stop, hangs}
 use Rattle.meaning.specs.Stop as S
-use Rattle.meaning.specs.Tree.{Tree, stop, go, branch, ask, Next, on, last, halt, Seen, seen, watched}
+use Rattle.meaning.specs.Tree.{Tree, stop, go, ask, halt, Seen, seen, watched}
 use Rattle.meaning.specs.Hang.{Hang, clear, at, hangOf}
 use Rattle.meaning.proofs.Laws.{split-at}
 use Rattle.processing.specs.Data.{undefinedTree}

@@ -11,7 +11,7 @@ use access_sources::access_source;
 use bits::field::bit;
 use bits::field::bits;
 use data_sources::data_back;
-use decoding::table::number;
+use decode_table::table::number;
 use links::Back;
 use links::link;
 use transfer_sources::transfer_source;

@@ -1,7 +1,7 @@
 -- `access_marks::watched_transfer` meets its contract.
 use mathlib.Core.Path.{sym, _∙_}
 use Rattle.bits.specs.Field.{field, bitOf}
-use Rattle.machine.specs.Registers.{regOf}
+use Rattle.registers.specs.Registers.{regOf}
 use Rattle.addresses.specs.Address.{formatOf, countOf}
 use Rattle.memory.proofs.Doubles as words
 use Rattle.access_marks.proofs.Doubles.{in-words}

@@ -7,13 +7,13 @@ use denote.Ref.{now}
 use native.Mathlib.Omega.{arith}
 use lib.Ieee.{binary32}
 use lib.ListN.{length, length-set}
-use Rattle.limits.specs.Marks.{onesOf}
+use Rattle.window_marks.specs.Marks.{onesOf}
 use Rattle.meaning.specs.Step.{afterMarks}
 use Rattle.meaning.proofs.Laws.{marks-none}
 use Rattle.memory.specs.LoadStore.{accessAt}
 use Rattle.place_marks.specs.Word.{mapIn}
 use Rattle.known_places.proofs.Count.{ones-for}
-use Rattle.limits.proofs.Ones.{ones-le}
+use Rattle.window_marks.proofs.Ones.{ones-le}
 use Rattle.block_marks.proofs.Block.{stored}
 use Rattle.block_marks.proofs.mark_block_store.Statement.{statement}
 use Rattle.block_marks.proofs.mark_block_store.Tie as tie

@@ -1,7 +1,6 @@
 -- `known_places::known_before` meets its contract.
 use native.Mathlib.Omega.{arith}
 use Rattle.known_places.proofs.Count.{before-counted, before-le}
-use borrow.Author.Needs.{needs}
 use Rattle.known_places.proofs.known_before.Statement.{statement}
 use Rattle.known_places.proofs.known_before.Tie as tie
 

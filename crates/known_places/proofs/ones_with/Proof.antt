@@ -1,7 +1,7 @@
 -- `known_places::ones_with` meets its contract.
 use native.Mathlib.Omega.{arith}
 use denote.Ref.{now}
-use Rattle.limits.proofs.Ones.{ones-le}
+use Rattle.window_marks.proofs.Ones.{ones-le}
 use Rattle.known_places.proofs.Count.{one-in, ones-with}
 use borrow.Author.Needs.{needs}
 use Rattle.known_places.proofs.ones_with.Statement.{statement}

@@ -11,14 +11,6 @@ use native.Mathlib.Omega.{arith}
 use borrow.Author.Needs.{needs}
 use Rattle.origin.proofs.origin.Statement.{statement}
 use Rattle.origin.proofs.origin.Tie as tie
-use Rattle.origin.proofs.origin.Reads as reads
-use Rattle.origin.proofs.origin.Lts as lts
-use Rattle.decoding.proofs.table.operations.Reads as operations-reads
-use Rattle.limits.proofs.limit.watch_limit.Reads as watch-limit-reads
-use Rattle.walk_back.proofs.refusal.origin_refusal.Reads as origin-refusal-reads
-use Rattle.walk_back.proofs.walk.Reads as walk-reads
-use Rattle.watch.proofs.watch.Reads as watch-reads
-use Rattle.watch.proofs.watch_words.Reads as watch-words-reads
 
 -- the machine has as many parts as its type says
 sized : (c : tie.Start) → Sized (c .args .machine)

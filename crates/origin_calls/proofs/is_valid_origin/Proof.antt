@@ -4,9 +4,6 @@ use native.Mathlib.Omega.{arith}
 use borrow.Author.Needs.{needs}
 use Rattle.origin_calls.proofs.is_valid_origin.Statement.{statement}
 use Rattle.origin_calls.proofs.is_valid_origin.Tie as tie
-use Rattle.origin_calls.proofs.is_valid_origin.Reads as reads
-use Rattle.origin_calls.proofs.is_valid_origin.Lts as lts
-use Rattle.layout.proofs.state.is_valid.Reads as is-valid-reads
 
 returns : tie.Need-returns
 unfolding validOrigin

@@ -6,13 +6,6 @@ use Rattle.machine.specs.Place.{state}
 use borrow.Author.Needs.{needs}
 use Rattle.origin_calls.proofs.origin_call.Statement.{statement}
 use Rattle.origin_calls.proofs.origin_call.Tie as tie
-use Rattle.origin_calls.proofs.origin_call.Reads as reads
-use Rattle.origin_calls.proofs.origin_call.Lts as lts
-use Rattle.layout.proofs.state.decode.Reads as decode-reads
-use Rattle.layout.proofs.state.encode.Reads as encode-reads
-use Rattle.origin.proofs.origin.Reads as origin-reads
-use Rattle.origin_calls.proofs.is_valid_origin.Reads as is-valid-origin-reads
-use Rattle.origin_calls.proofs.report_origin.Reads as report-origin-reads
 
 is-valid-origin-requires : tie.Need-is-valid-origin-requires
 is-valid-origin-requires c κs = search needs

@@ -2,8 +2,6 @@ use borrow.Author.Tests.{eq-eqb, ne-eqb}
 use borrow.Author.Needs.{needs}
 use Rattle.origin_calls.proofs.refusal_word.Statement.{statement}
 use Rattle.origin_calls.proofs.refusal_word.Tie as tie
-use Rattle.origin_calls.proofs.refusal_word.Reads as reads
-use Rattle.origin_calls.proofs.refusal_word.Lts as lts
 
 returns : tie.Need-returns
 returns c = rw (eq-eqb _ _ (c .if1 .taken))

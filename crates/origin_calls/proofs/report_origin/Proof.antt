@@ -5,10 +5,6 @@ use native.Mathlib.Omega.{arith}
 use borrow.Author.Needs.{needs}
 use Rattle.origin_calls.proofs.report_origin.Statement.{statement}
 use Rattle.origin_calls.proofs.report_origin.Tie as tie
-use Rattle.origin_calls.proofs.report_origin.Reads as reads
-use Rattle.origin_calls.proofs.report_origin.Lts as lts
-use Rattle.answer.proofs.report_stop.Reads as report-stop-reads
-use Rattle.origin_calls.proofs.refusal_word.Reads as refusal-word-reads
 
 refusal-word-requires : tie.Need-refusal-word-requires
 refusal-word-requires c κs = search needs

@@ -5,8 +5,8 @@ use native.Mathlib.Omega.{arith}
 use mathlib.Core.Path.{_≡_, refl, sym, _∙_}
 use denote.Ref.{now}
 use Rattle.records.specs.Number.{numbersOf}
-use Rattle.limits.specs.Marks.{bitsOnly}
-use Rattle.limits.proofs.Bytes.{bits-end, bits-on, bits-not}
+use Rattle.window_marks.specs.Marks.{bitsOnly}
+use Rattle.window_marks.proofs.Bytes.{bits-end, bits-on, bits-not}
 use Rattle.records.proofs.Laws.{part-length, part-at}
 use Rattle.record_marks.proofs.bits_only.Statement.{statement}
 use Rattle.record_marks.proofs.bits_only.Tie as tie

@@ -1,6 +1,5 @@
 -- `run_calls::run_call` meets its contract.
 use lib.ListN.{length}
-use denote.Ref.{now}
 use borrow.Author.Needs.{needs}
 use Rattle.outcomes.proofs.Runs.{not-run, has-run}
 use Rattle.answer.proofs.Bounds.{ran-fits}

@@ -8,11 +8,6 @@ use Prim.Native.Nat.{ℕ}
 use borrow.Author.Needs.{needs}
 use Rattle.run_log.proofs.log_word.Statement.{statement}
 use Rattle.run_log.proofs.log_word.Tie as tie
-use Rattle.run_log.proofs.log_word.Reads as reads
-use Rattle.run_log.proofs.log_word.Lts as lts
-use Rattle.bits.proofs.field.bits.Reads as bits-reads
-use Rattle.bits.proofs.psr.check_condition.Reads as check-condition-reads
-use Rattle.word_sources.proofs.value_of.Reads as value-of-reads
 
 bits-requires : tie.Need-bits-requires
 bits-requires c κs = search needs

@@ -1,5 +1,5 @@
 -- `step_marks::mark_root` meets its contract.
-use Rattle.steps.specs.Root.{rootStep}
+use Rattle.root_steps.specs.Root.{rootStep}
 use Rattle.processing_marks.proofs.Steps.{of-word}
 use borrow.Author.Needs.{needs}
 use Rattle.step_marks.proofs.mark_root.Statement.{statement}

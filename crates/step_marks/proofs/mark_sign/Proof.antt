@@ -2,7 +2,7 @@
 use mathlib.Core.Path.{sym, _∙_}
 use lib.Ieee.{binary32, binary64}
 use Rattle.place_marks.specs.Word.{mapIn}
-use Rattle.decoding.specs.Fields.{regD, regM}
+use Rattle.register_fields.specs.Fields.{regD, regM}
 use Rattle.processing_marks.proofs.Steps.{sign-copies}
 use borrow.Author.Needs.{needs}
 use Rattle.step_marks.proofs.mark_sign.Statement.{statement}

@@ -5,11 +5,6 @@ use mathlib.Core.Path.{sym, _∙_}
 use borrow.Author.Needs.{needs}
 use Rattle.transfers.proofs.coprocessor_register.Statement.{statement}
 use Rattle.transfers.proofs.coprocessor_register.Tie as tie
-use Rattle.transfers.proofs.coprocessor_register.Reads as reads
-use Rattle.transfers.proofs.coprocessor_register.Lts as lts
-use Rattle.transfers.proofs.single.single_core.Reads as single-core-reads
-use Rattle.transfers.proofs.system.system.Reads as system-reads
-use Rattle.transfers.proofs.transfer_of.Reads as transfer-of-reads
 
 transfer-of-requires : tie.Need-transfer-of-requires
 transfer-of-requires c κs = search needs

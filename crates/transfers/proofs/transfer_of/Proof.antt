@@ -6,8 +6,7 @@ use lib.Dec.{eqb}
 use native.Mathlib.Omega.{arith}
 use borrow.Author.Tests.{ne-eqb}
 use borrow.Author.Needs.{needs}
-use Rattle.machine.specs.declared.registers.Single.{Single}
-use Rattle.transfers.specs.declared.Transfer.{Transfer}
+use Rattle.registers.specs.declared.registers.Single.{Single}
 use Rattle.transfers.specs.declared.Transfer.the-variants as transfer
 use Rattle.transfers.specs.Transfer.{transferOf}
 use Rattle.transfers.proofs.transfer_of.Statement.{statement}

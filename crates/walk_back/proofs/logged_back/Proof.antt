@@ -5,9 +5,6 @@ use native.Mathlib.Omega.{arith}
 use borrow.Author.Needs.{needs}
 use Rattle.walk_back.proofs.logged_back.Statement.{statement}
 use Rattle.walk_back.proofs.logged_back.Tie as tie
-use Rattle.walk_back.proofs.logged_back.Reads as reads
-use Rattle.walk_back.proofs.logged_back.Lts as lts
-use Rattle.word_sources.proofs.word_back.Reads as word-back-reads
 
 returns : tie.Need-returns
 returns c = let a = c .before .before .args in (omega arith, λ st v e. skipped (a .base) (a .op) st (a .index) (a .marks) (a .q) (a .k) _ (not-true _ (sym e ∙ c .if1 .taken)))

@@ -10,13 +10,9 @@ use lib.ListN.{length}
 use mathlib.Core.Bool.{false}
 use mathlib.Core.Path.{_≡_, refl, _∙_}
 use native.Mathlib.Omega.{arith}
-use Prim.Native.Nat.{ℕ, _+_, _*_, _≤_}
+use Prim.Native.Nat.{_+_, _*_, _≤_}
 use Rattle.walk_back.proofs.walk.Statement.{statement}
 use Rattle.walk_back.proofs.walk.Tie as tie
-use Rattle.walk_back.proofs.walk.Reads as reads
-use Rattle.walk_back.proofs.walk.Lts as lts
-use Rattle.links.proofs.turn.Reads as turn-reads
-use Rattle.walk_back.proofs.logged_back.Reads as logged-back-reads
 
 abbrev Inv-loop : tie.InvT-loop
 Inv-loop table log-marks log-values log-skips base list count q pairs₀ at₀ k₀ j₀ pairs at k j =

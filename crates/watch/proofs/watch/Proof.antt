@@ -2,7 +2,7 @@ use Rattle.watch.proofs.Promised.{refuses, refusing, promised, word-ref
 use Rattle.watch.proofs.Demanded.{mapped, within}
 use Rattle.known_places.proofs.Count.{places-counted}
 use Rattle.place_marks.specs.Word.{mapIn}
-use Rattle.limits.proofs.Ones.{ones-le}
+use Rattle.window_marks.proofs.Ones.{ones-le}
 use Rattle.limits.proofs.Limits.{run-within, arm}
 use Rattle.machine.specs.Place.{state}
 use Rattle.machine.specs.Machine.{Sized}
@@ -12,13 +12,6 @@ use native.Mathlib.Omega.{arith}
 use borrow.Author.Needs.{needs}
 use Rattle.watch.proofs.watch.Statement.{statement}
 use Rattle.watch.proofs.watch.Tie as tie
-use Rattle.watch.proofs.watch.Reads as reads
-use Rattle.watch.proofs.watch.Lts as lts
-use Rattle.decoding.proofs.table.operations.Reads as operations-reads
-use Rattle.known_places.proofs.known_before.Reads as known-before-reads
-use Rattle.limits.proofs.limit.watch_limit.Reads as watch-limit-reads
-use Rattle.limits.proofs.marks.count_ones.Reads as count-ones-reads
-use Rattle.watch.proofs.watch_words.Reads as watch-words-reads
 
 -- the machine has as many parts as its type says
 sized : (c : tie.Start) → Sized (c .args .machine)

@@ -2,7 +2,7 @@ use borrow.Author.Needs.{needs}
 use Rattle.run_log.proofs.Logging.{Going, going-none, going-on, going-last, going-halt, going-end}
 use Rattle.watch.proofs.Replies.{few, ends-as}
 use Rattle.place_marks.specs.Word.{mapIn}
-use Rattle.limits.specs.Marks.{onesOf}
+use Rattle.window_marks.specs.Marks.{onesOf}
 use Rattle.machine.specs.Place.{state}
 use Rattle.machine.specs.Machine.{assembled}
 use denote.Ref.{now}
@@ -13,13 +13,6 @@ use mathlib.Core.Path.{_≡_, refl, _∙_}
 use Prim.Native.Nat.{_≤_, _-_}
 use Rattle.watch.proofs.watch_words.Statement.{statement}
 use Rattle.watch.proofs.watch_words.Tie as tie
-use Rattle.watch.proofs.watch_words.Reads as reads
-use Rattle.watch.proofs.watch_words.Lts as lts
-use Rattle.progress.proofs.Progress.new.Reads as new-reads
-use Rattle.run_log.proofs.log_word.Reads as log-word-reads
-use Rattle.run_word.proofs.word.advance.Reads as advance-reads
-use Rattle.watch.proofs.ended.Reads as ended-reads
-use Rattle.watch_word.proofs.word.watch_word.Reads as watch-word-reads
 
 abbrev Inv-loop : tie.InvT-loop
 Inv-loop table marks window₀ window-marks₀ ones base list log-marks₀ log-values₀ log-skips₀ s₀ r₀ x₀ known₀ words₀ i₀ window window-marks log-marks log-values log-skips s r x known words i =

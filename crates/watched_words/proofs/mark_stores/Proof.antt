@@ -3,7 +3,7 @@ use Rattle.watched_words.proofs.InTurn.{stored}
 use lib.ListN.{length}
 use mathlib.Core.Path.{_≡_, refl, _∙_}
 use mathlib.Core.Bool.{false}
-use Rattle.limits.specs.Marks.{onesOf}
+use Rattle.window_marks.specs.Marks.{onesOf}
 use Rattle.place_marks.specs.Word.{mapIn}
 use Prim.Native.Nat.{_≤_, _-_}
 use lib.Ieee.{binary32}

@@ -4,7 +4,7 @@ use Rattle.chain_lines.specs.Name.{beforeSpace}
 use Prim.Native.Nat.{_≤_, _+_, _-_}
 use lib.ListN.{length, drop}
 use native.Mathlib.Omega.{arith}
-use mathlib.Core.Path.{_≡_, refl, ap}
+use mathlib.Core.Path.{_≡_, ap}
 use Rattle.chain_lines.proofs.name.count_before_space.Statement.{statement}
 use Rattle.chain_lines.proofs.name.count_before_space.Tie as tie
 

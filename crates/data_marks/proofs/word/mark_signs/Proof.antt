@@ -1,6 +1,6 @@
 -- `data_marks::word::mark_signs` meets its contract.
 use lib.Ieee.{binary32, binary64}
-use Rattle.steps.specs.Sign.{signStep}
+use Rattle.sign_steps.specs.Sign.{signStep}
 use Rattle.processing_marks.proofs.Steps.{sign-copies}
 use borrow.Author.Needs.{needs}
 use Rattle.data_marks.proofs.word.mark_signs.Statement.{statement}

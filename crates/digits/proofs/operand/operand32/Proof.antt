@@ -7,9 +7,6 @@ use mathlib.Core.Path.{refl}
 use borrow.Author.Needs.{needs}
 use Rattle.digits.proofs.operand.operand32.Statement.{statement}
 use Rattle.digits.proofs.operand.operand32.Tie as tie
-use Rattle.digits.proofs.operand.operand32.Reads as reads
-use Rattle.digits.proofs.operand.operand32.Lts as lts
-use Rattle.rounding.proofs.lift.lift.Reads as lift-reads
 
 lift-requires : tie.Need-lift-requires
 lift-requires c κs = search needs

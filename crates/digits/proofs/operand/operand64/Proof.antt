@@ -6,9 +6,6 @@ use native.Mathlib.Nat.{mul-one}
 use borrow.Author.Needs.{needs}
 use Rattle.digits.proofs.operand.operand64.Statement.{statement}
 use Rattle.digits.proofs.operand.operand64.Tie as tie
-use Rattle.digits.proofs.operand.operand64.Reads as reads
-use Rattle.digits.proofs.operand.operand64.Lts as lts
-use Rattle.rounding.proofs.lift.lift.Reads as lift-reads
 
 lift-requires : tie.Need-lift-requires
 lift-requires c κs = search needs

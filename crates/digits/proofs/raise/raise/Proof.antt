@@ -3,8 +3,6 @@ use lib.Count.{leading-le}
 use native.Mathlib.Omega.{arith}
 use Rattle.digits.proofs.raise.raise.Statement.{statement}
 use Rattle.digits.proofs.raise.raise.Tie as tie
-use Rattle.digits.proofs.raise.raise.Reads as reads
-use Rattle.digits.proofs.raise.raise.Lts as lts
 
 cast-result : tie.Need-cast-result
 cast-result c = omega (arith, leading-le 64 (c .args .t))

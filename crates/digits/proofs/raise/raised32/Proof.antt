@@ -5,10 +5,6 @@ use native.Mathlib.Omega.{arith}
 use borrow.Author.Needs.{needs}
 use Rattle.digits.proofs.raise.raised32.Statement.{statement}
 use Rattle.digits.proofs.raise.raised32.Tie as tie
-use Rattle.digits.proofs.raise.raised32.Reads as reads
-use Rattle.digits.proofs.raise.raised32.Lts as lts
-use Rattle.digits.proofs.raise.raise.Reads as raise-reads
-use Rattle.packing.proofs.pack.settle32.Reads as settle32-reads
 
 settle32-requires : tie.Need-settle32-requires
 settle32-requires c κs = (c .before .pre .1, c .before .pre .2, inl (c .if1 .taken))

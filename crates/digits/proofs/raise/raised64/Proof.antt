@@ -5,10 +5,6 @@ use native.Mathlib.Omega.{arith}
 use borrow.Author.Needs.{needs}
 use Rattle.digits.proofs.raise.raised64.Statement.{statement}
 use Rattle.digits.proofs.raise.raised64.Tie as tie
-use Rattle.digits.proofs.raise.raised64.Reads as reads
-use Rattle.digits.proofs.raise.raised64.Lts as lts
-use Rattle.digits.proofs.raise.raise.Reads as raise-reads
-use Rattle.packing.proofs.pack.settle64.Reads as settle64-reads
 
 settle64-requires : tie.Need-settle64-requires
 settle64-requires c κs = (c .before .pre .1, c .before .pre .2, inl (c .if1 .taken))

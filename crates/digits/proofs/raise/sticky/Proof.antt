@@ -2,8 +2,6 @@ use Rattle.digits.proofs.Raising.{sticky-some}
 use borrow.Author.Needs.{needs}
 use Rattle.digits.proofs.raise.sticky.Statement.{statement}
 use Rattle.digits.proofs.raise.sticky.Tie as tie
-use Rattle.digits.proofs.raise.sticky.Reads as reads
-use Rattle.digits.proofs.raise.sticky.Lts as lts
 
 returns : tie.Need-returns
 returns c = search needs

@@ -3,8 +3,6 @@ use native.Mathlib.Nat.{zero-add}
 use borrow.Author.Needs.{needs}
 use Rattle.digits.proofs.sign.signed32.Statement.{statement}
 use Rattle.digits.proofs.sign.signed32.Tie as tie
-use Rattle.digits.proofs.sign.signed32.Reads as reads
-use Rattle.digits.proofs.sign.signed32.Lts as lts
 
 add-result : tie.Need-add-result
 add-result c = search needs

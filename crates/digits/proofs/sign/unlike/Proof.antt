@@ -2,8 +2,6 @@ use Rattle.digits.proofs.Raising.{plain}
 use borrow.Author.Needs.{needs}
 use Rattle.digits.proofs.sign.unlike.Statement.{statement}
 use Rattle.digits.proofs.sign.unlike.Tie as tie
-use Rattle.digits.proofs.sign.unlike.Reads as reads
-use Rattle.digits.proofs.sign.unlike.Lts as lts
 
 returns : tie.Need-returns
 returns c = search needs

@@ -4,9 +4,6 @@ use lib.Ieee.{binary32}
 use borrow.Author.Needs.{needs}
 use Rattle.directed.proofs.negate.negate32.Statement.{statement}
 use Rattle.directed.proofs.negate.negate32.Tie as tie
-use Rattle.directed.proofs.negate.negate32.Reads as reads
-use Rattle.directed.proofs.negate.negate32.Lts as lts
-use Rattle.std.proofs.num.wrapping_add_u32.Reads as wrapping-add-u32-reads
 
 wrapping-add-u32-requires : tie.Need-wrapping-add-u32-requires
 wrapping-add-u32-requires c κs = search needs

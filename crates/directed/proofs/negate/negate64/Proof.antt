@@ -4,9 +4,6 @@ use lib.Ieee.{binary64}
 use borrow.Author.Needs.{needs}
 use Rattle.directed.proofs.negate.negate64.Statement.{statement}
 use Rattle.directed.proofs.negate.negate64.Tie as tie
-use Rattle.directed.proofs.negate.negate64.Reads as reads
-use Rattle.directed.proofs.negate.negate64.Lts as lts
-use Rattle.std.proofs.num.wrapping_add_u64.Reads as wrapping-add-u64-reads
 
 wrapping-add-u64-requires : tie.Need-wrapping-add-u64-requires
 wrapping-add-u64-requires c κs = search needs

@@ -1,7 +1,6 @@
 -- `listing::line::set_of` meets its contract.
 use Rattle.listing.specs.declared.line.Expected.the-variants as expected
 use Rattle.listing.specs.declared.line.Item.the-variants.{Mistake}
-use Rattle.machine.specs.Place.{place}
 use Rattle.place_names.specs.Place.{placeOf}
 use Rattle.listing.specs.Line.{restOf, setTo, setOf}
 use Rattle.listing.proofs.Items.{rest-is, given-value, given-wrong}

@@ -1,5 +1,4 @@
 -- `listing::line::unknown_of` meets its contract.
-use Rattle.listing.specs.declared.line.Expected.the-variants as expected
 use Rattle.listing.specs.Line.{unknownOf}
 use Rattle.listing.proofs.Items.{blank-is, blank-not}
 use denote.Ref.{now}

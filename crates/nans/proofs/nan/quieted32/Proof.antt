@@ -2,7 +2,6 @@
 use lib.Ieee.{binary32}
 use Rattle.nans.proofs.Choosing.{quiet-kept, quiet-set}
 use native.Mathlib.Omega.{arith}
-use borrow.Author.Needs.{needs}
 use Rattle.nans.proofs.nan.quieted32.Statement.{statement}
 use Rattle.nans.proofs.nan.quieted32.Tie as tie
 

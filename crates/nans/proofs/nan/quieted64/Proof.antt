@@ -2,7 +2,6 @@
 use lib.Ieee.{binary64}
 use Rattle.nans.proofs.Choosing.{quiet-kept, quiet-set}
 use native.Mathlib.Omega.{arith}
-use borrow.Author.Needs.{needs}
 use Rattle.nans.proofs.nan.quieted64.Statement.{statement}
 use Rattle.nans.proofs.nan.quieted64.Tie as tie
 

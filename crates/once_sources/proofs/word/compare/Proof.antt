@@ -3,8 +3,8 @@ use Prim.Native.Nat.{ℕ}
 use mathlib.Core.Bool.{Bool}
 use lib.Ieee.{binary32, binary64}
 use borrow.Author.Needs.{needs}
-use Rattle.steps.specs.Compare.{compareStep}
-use Rattle.decoding.specs.Fields.{regD, regM}
+use Rattle.compare_steps.specs.Compare.{compareStep}
+use Rattle.register_fields.specs.Fields.{regD, regM}
 use Rattle.short_vectors.specs.Vector.{precision}
 use Rattle.sources.specs.Source.{Tracing}
 use Rattle.sources.proofs.Rules.{as-fields, as-tested}

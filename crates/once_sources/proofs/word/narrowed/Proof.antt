@@ -3,7 +3,7 @@ use Prim.Native.Nat.{ℕ}
 use mathlib.Core.List.{[], _∷_}
 use lib.Ieee.{binary64}
 use borrow.Author.Needs.{needs}
-use Rattle.conversions.specs.Width.{narrowStep}
+use Rattle.width_steps.specs.Width.{narrowStep}
 use Rattle.short_vectors.specs.Register.{wordsOf}
 use Rattle.sources.specs.Source.{Tracing}
 use Rattle.sources.proofs.Rules.{as-fields}

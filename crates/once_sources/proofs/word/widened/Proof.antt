@@ -3,7 +3,7 @@ use Prim.Native.Nat.{ℕ}
 use mathlib.Core.List.{[], _∷_}
 use lib.Ieee.{binary32}
 use borrow.Author.Needs.{needs}
-use Rattle.conversions.specs.Width.{widenStep}
+use Rattle.width_steps.specs.Width.{widenStep}
 use Rattle.short_vectors.specs.Register.{wordsOf}
 use Rattle.step_sources.proofs.Words.{only}
 use Rattle.sources.specs.Source.{Tracing}

@@ -1,6 +1,6 @@
 -- `place_lines::place::named` meets its contract.
 use Rattle.place_lines.specs.Place.{namedText}
-use Rattle.text.proofs.Chain.{begun, more, ended}
+use Rattle.text.proofs.Chain.{more, ended}
 use mathlib.Core.List.{append-assoc}
 use borrow.Author.Needs.{needs}
 use Rattle.place_lines.proofs.place.named.Statement.{statement}

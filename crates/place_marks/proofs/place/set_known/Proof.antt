@@ -1,7 +1,6 @@
 -- `place_marks::place::set_known` meets its contract.
 use lib.Bits.{and-le-l}
 use borrow.Author.Needs.{needs}
-use mathlib.Core.Path.{_∙_}
 use Rattle.place_marks.proofs.Word.{mark-in}
 use Rattle.place_marks.proofs.Replaced.{set-one}
 use Rattle.place_marks.proofs.place.set_known.Statement.{statement}

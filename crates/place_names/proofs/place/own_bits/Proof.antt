@@ -1,7 +1,7 @@
 -- `place_names::place::own_bits` meets its contract.
 use Rattle.place_names.proofs.Names.{by-word}
 use Rattle.place_names.specs.Place.{ownBits}
-use Rattle.machine.specs.Place.{Place, place}
+use Rattle.machine.specs.Place.{place}
 use mathlib.Core.Path.{_≡_, sym}
 use native.Mathlib.Nat.{mod-eq-of-lt}
 use borrow.Author.Needs.{needs}

@@ -3,8 +3,6 @@ use native.Mathlib.Omega.{arith}
 use borrow.Author.Needs.{needs}
 use Rattle.products.proofs.product.multiply.Statement.{statement}
 use Rattle.products.proofs.product.multiply.Tie as tie
-use Rattle.products.proofs.product.multiply.Reads as reads
-use Rattle.products.proofs.product.multiply.Lts as lts
 
 mul-low : tie.Need-mul-low
 mul-low c = omega (arith, parts (c .args .a) (c .args .b) (c .pre .0) (c .pre .1))

@@ -3,11 +3,6 @@ use lib.Ieee.{binary32}
 use borrow.Author.Needs.{needs}
 use Rattle.products.proofs.product.product32.Statement.{statement}
 use Rattle.products.proofs.product.product32.Tie as tie
-use Rattle.products.proofs.product.product32.Reads as reads
-use Rattle.products.proofs.product.product32.Lts as lts
-use Rattle.digits.proofs.operand.is_number32.Reads as is-number32-reads
-use Rattle.products.proofs.product.number_product32.Reads as number-product32-reads
-use Rattle.products.proofs.product.special_product32.Reads as special-product32-reads
 
 is-number32-requires : tie.Need-is-number32-requires
 is-number32-requires c κs = search needs

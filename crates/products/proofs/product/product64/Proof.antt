@@ -3,11 +3,6 @@ use lib.Ieee.{binary64}
 use borrow.Author.Needs.{needs}
 use Rattle.products.proofs.product.product64.Statement.{statement}
 use Rattle.products.proofs.product.product64.Tie as tie
-use Rattle.products.proofs.product.product64.Reads as reads
-use Rattle.products.proofs.product.product64.Lts as lts
-use Rattle.digits.proofs.operand.is_number64.Reads as is-number64-reads
-use Rattle.products.proofs.product.number_product64.Reads as number-product64-reads
-use Rattle.products.proofs.product.special_product64.Reads as special-product64-reads
 
 is-number64-requires : tie.Need-is-number64-requires
 is-number64-requires c κs = search needs

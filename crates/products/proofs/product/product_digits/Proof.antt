@@ -4,10 +4,6 @@ use native.Mathlib.Omega.{arith}
 use borrow.Author.Needs.{needs}
 use Rattle.products.proofs.product.product_digits.Statement.{statement}
 use Rattle.products.proofs.product.product_digits.Tie as tie
-use Rattle.products.proofs.product.product_digits.Reads as reads
-use Rattle.products.proofs.product.product_digits.Lts as lts
-use Rattle.digits.proofs.raise.sticky.Reads as sticky-reads
-use Rattle.products.proofs.product.multiply.Reads as multiply-reads
 
 multiply-requires : tie.Need-multiply-requires
 multiply-requires c κs = search needs

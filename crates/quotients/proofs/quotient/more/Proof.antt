@@ -4,8 +4,6 @@ use native.Mathlib.Omega.{arith}
 use borrow.Author.Needs.{needs}
 use Rattle.quotients.proofs.quotient.more.Statement.{statement}
 use Rattle.quotients.proofs.quotient.more.Tie as tie
-use Rattle.quotients.proofs.quotient.more.Reads as reads
-use Rattle.quotients.proofs.quotient.more.Lts as lts
 
 mul-x : tie.Need-mul-x
 mul-x c = search needs

@@ -3,11 +3,6 @@ use lib.Ieee.{binary32}
 use borrow.Author.Needs.{needs}
 use Rattle.quotients.proofs.quotient.quotient32.Statement.{statement}
 use Rattle.quotients.proofs.quotient.quotient32.Tie as tie
-use Rattle.quotients.proofs.quotient.quotient32.Reads as reads
-use Rattle.quotients.proofs.quotient.quotient32.Lts as lts
-use Rattle.digits.proofs.operand.is_number32.Reads as is-number32-reads
-use Rattle.quotients.proofs.quotient.number_quotient32.Reads as number-quotient32-reads
-use Rattle.quotients.proofs.quotient.special_quotient32.Reads as special-quotient32-reads
 
 is-number32-requires : tie.Need-is-number32-requires
 is-number32-requires c κs = search needs

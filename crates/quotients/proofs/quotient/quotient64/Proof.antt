@@ -3,11 +3,6 @@ use lib.Ieee.{binary64}
 use borrow.Author.Needs.{needs}
 use Rattle.quotients.proofs.quotient.quotient64.Statement.{statement}
 use Rattle.quotients.proofs.quotient.quotient64.Tie as tie
-use Rattle.quotients.proofs.quotient.quotient64.Reads as reads
-use Rattle.quotients.proofs.quotient.quotient64.Lts as lts
-use Rattle.digits.proofs.operand.is_number64.Reads as is-number64-reads
-use Rattle.quotients.proofs.quotient.number_quotient64.Reads as number-quotient64-reads
-use Rattle.quotients.proofs.quotient.special_quotient64.Reads as special-quotient64-reads
 
 is-number64-requires : tie.Need-is-number64-requires
 is-number64-requires c κs = search needs

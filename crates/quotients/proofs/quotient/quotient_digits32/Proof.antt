@@ -5,9 +5,6 @@ use native.Mathlib.Omega.{arith}
 use borrow.Author.Needs.{needs}
 use Rattle.quotients.proofs.quotient.quotient_digits32.Statement.{statement}
 use Rattle.quotients.proofs.quotient.quotient_digits32.Tie as tie
-use Rattle.quotients.proofs.quotient.quotient_digits32.Reads as reads
-use Rattle.quotients.proofs.quotient.quotient_digits32.Lts as lts
-use Rattle.digits.proofs.raise.sticky.Reads as sticky-reads
 
 mul-x : tie.Need-mul-x
 mul-x c = search needs

@@ -4,10 +4,6 @@ use native.Mathlib.Omega.{arith}
 use borrow.Author.Needs.{needs}
 use Rattle.quotients.proofs.quotient.quotient_digits64.Statement.{statement}
 use Rattle.quotients.proofs.quotient.quotient_digits64.Tie as tie
-use Rattle.quotients.proofs.quotient.quotient_digits64.Reads as reads
-use Rattle.quotients.proofs.quotient.quotient_digits64.Lts as lts
-use Rattle.digits.proofs.raise.sticky.Reads as sticky-reads
-use Rattle.quotients.proofs.quotient.divide.Reads as divide-reads
 
 divide-requires : tie.Need-divide-requires
 divide-requires c κs = search needs

@@ -1,7 +1,7 @@
 -- `report::line::at_word` meets its contract.
 use Rattle.report.specs.Line.{wordText}
 use borrow.Author.Tests.{lt-ltb, le-ltb}
-use Rattle.text.proofs.Chain.{begun, more, ended}
+use Rattle.text.proofs.Chain.{more, ended}
 use mathlib.Core.List.{append-assoc}
 use borrow.Author.Needs.{needs}
 use Rattle.report.proofs.line.at_word.Statement.{statement}

@@ -6,11 +6,6 @@ use mathlib.Core.Path.{sym, _∙_}
 use borrow.Author.Needs.{needs}
 use Rattle.run_word.proofs.word.transfer.Statement.{statement}
 use Rattle.run_word.proofs.word.transfer.Tie as tie
-use Rattle.run_word.proofs.word.transfer.Reads as reads
-use Rattle.run_word.proofs.word.transfer.Lts as lts
-use Rattle.transfers.proofs.single.single_core.Reads as single-core-reads
-use Rattle.transfers.proofs.system.system.Reads as system-reads
-use Rattle.transfers.proofs.transfer_of.Reads as transfer-of-reads
 
 transfer-of-requires : tie.Need-transfer-of-requires
 transfer-of-requires c κs = search needs

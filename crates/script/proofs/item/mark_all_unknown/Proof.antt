@@ -6,7 +6,7 @@ use Rattle.tokens.specs.Token.{wordsOf}
 use Rattle.place_marks.specs.Word.{mapIn}
 use borrow.Author.Needs.{needs}
 use denote.Ref.{now}
-use mathlib.Core.Path.{_≡_, refl, sym, _∙_, ap}
+use mathlib.Core.Path.{_≡_, refl, sym, _∙_}
 use native.Mathlib.Omega.{arith}
 use lib.ListN.{length, drop}
 use mathlib.Core.List.{List}

@@ -1,6 +1,5 @@
 -- `script::item::mark_unknown` meets its contract.
 use Rattle.script.proofs.Unknown.{window-unknown}
-use denote.Ref.{now}
 use borrow.Author.Needs.{needs}
 use Rattle.script.proofs.item.mark_unknown.Statement.{statement}
 use Rattle.script.proofs.item.mark_unknown.Tie as tie

@@ -3,10 +3,6 @@ use Prim.Native.Nat.{_*_}
 use borrow.Author.Needs.{needs}
 use Rattle.sums.proofs.sum.align.Statement.{statement}
 use Rattle.sums.proofs.sum.align.Tie as tie
-use Rattle.sums.proofs.sum.align.Reads as reads
-use Rattle.sums.proofs.sum.align.Lts as lts
-use Rattle.digits.proofs.raise.sticky.Reads as sticky-reads
-use Rattle.rounding.proofs.rounding.least.Reads as least-reads
 
 mul-t : tie.Need-mul-t
 mul-t c = search needs

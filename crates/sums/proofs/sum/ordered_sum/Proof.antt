@@ -5,10 +5,6 @@ use native.Mathlib.Omega.{arith}
 use borrow.Author.Needs.{needs}
 use Rattle.sums.proofs.sum.ordered_sum.Statement.{statement}
 use Rattle.sums.proofs.sum.ordered_sum.Tie as tie
-use Rattle.sums.proofs.sum.ordered_sum.Reads as reads
-use Rattle.sums.proofs.sum.ordered_sum.Lts as lts
-use Rattle.digits.proofs.sign.unlike.Reads as unlike-reads
-use Rattle.sums.proofs.sum.align.Reads as align-reads
 
 sub-align : tie.Need-sub-align
 sub-align c = search needs

@@ -3,11 +3,6 @@ use lib.Ieee.{binary32}
 use borrow.Author.Needs.{needs}
 use Rattle.sums.proofs.sum.sum32.Statement.{statement}
 use Rattle.sums.proofs.sum.sum32.Tie as tie
-use Rattle.sums.proofs.sum.sum32.Reads as reads
-use Rattle.sums.proofs.sum.sum32.Lts as lts
-use Rattle.digits.proofs.operand.is_number32.Reads as is-number32-reads
-use Rattle.sums.proofs.sum.number_sum32.Reads as number-sum32-reads
-use Rattle.sums.proofs.sum.special_sum32.Reads as special-sum32-reads
 
 is-number32-requires : tie.Need-is-number32-requires
 is-number32-requires c κs = search needs

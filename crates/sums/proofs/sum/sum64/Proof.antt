@@ -3,11 +3,6 @@ use lib.Ieee.{binary64}
 use borrow.Author.Needs.{needs}
 use Rattle.sums.proofs.sum.sum64.Statement.{statement}
 use Rattle.sums.proofs.sum.sum64.Tie as tie
-use Rattle.sums.proofs.sum.sum64.Reads as reads
-use Rattle.sums.proofs.sum.sum64.Lts as lts
-use Rattle.digits.proofs.operand.is_number64.Reads as is-number64-reads
-use Rattle.sums.proofs.sum.number_sum64.Reads as number-sum64-reads
-use Rattle.sums.proofs.sum.special_sum64.Reads as special-sum64-reads
 
 is-number64-requires : tie.Need-is-number64-requires
 is-number64-requires c κs = search needs

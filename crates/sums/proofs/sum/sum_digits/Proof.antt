@@ -3,9 +3,6 @@ use native.Mathlib.Nat.{le-of-lt}
 use borrow.Author.Needs.{needs}
 use Rattle.sums.proofs.sum.sum_digits.Statement.{statement}
 use Rattle.sums.proofs.sum.sum_digits.Tie as tie
-use Rattle.sums.proofs.sum.sum_digits.Reads as reads
-use Rattle.sums.proofs.sum.sum_digits.Lts as lts
-use Rattle.sums.proofs.sum.ordered_sum.Reads as ordered-sum-reads
 
 mul-if1 : tie.Need-mul-if1
 mul-if1 c = search needs

@@ -4,8 +4,6 @@ use lib.ListN.{length}
 use borrow.Author.Needs.{needs}
 use Rattle.test_limits.proofs.watched.all_are.Statement.{statement}
 use Rattle.test_limits.proofs.watched.all_are.Tie as tie
-use Rattle.test_limits.proofs.watched.all_are.Reads as reads
-use Rattle.test_limits.proofs.watched.all_are.Lts as lts
 
 abbrev Inv-loop : tie.InvT-loop
 Inv-loop words value i₀ i = i ≤ length words

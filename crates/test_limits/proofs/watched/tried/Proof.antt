@@ -5,9 +5,6 @@ use mathlib.Core.Path.{sym}
 use borrow.Author.Needs.{needs}
 use Rattle.test_limits.proofs.watched.tried.Statement.{statement}
 use Rattle.test_limits.proofs.watched.tried.Tie as tie
-use Rattle.test_limits.proofs.watched.tried.Reads as reads
-use Rattle.test_limits.proofs.watched.tried.Lts as lts
-use Rattle.test_limits.proofs.watched.ran.Reads as ran-reads
 
 array-borrow-prefix-memory : tie.Need-array-borrow-prefix-memory
 array-borrow-prefix-memory c = search needs

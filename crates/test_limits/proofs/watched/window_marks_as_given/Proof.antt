@@ -4,8 +4,6 @@ use lib.ListN.{length}
 use borrow.Author.Needs.{needs}
 use Rattle.test_limits.proofs.watched.window_marks_as_given.Statement.{statement}
 use Rattle.test_limits.proofs.watched.window_marks_as_given.Tie as tie
-use Rattle.test_limits.proofs.watched.window_marks_as_given.Reads as reads
-use Rattle.test_limits.proofs.watched.window_marks_as_given.Lts as lts
 
 abbrev Inv-loop : tie.InvT-loop
 Inv-loop marks at mark i₀ i = i ≤ length marks

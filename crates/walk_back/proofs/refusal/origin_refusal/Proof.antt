@@ -3,9 +3,6 @@ use denote.Ref.{now}
 use borrow.Author.Needs.{needs}
 use Rattle.walk_back.proofs.refusal.origin_refusal.Statement.{statement}
 use Rattle.walk_back.proofs.refusal.origin_refusal.Tie as tie
-use Rattle.walk_back.proofs.refusal.origin_refusal.Reads as reads
-use Rattle.walk_back.proofs.refusal.origin_refusal.Lts as lts
-use Rattle.walk_back.proofs.refusal.place_known.Reads as place-known-reads
 
 add-if1 : tie.Need-add-if1
 add-if1 c = search needs

@@ -3,9 +3,6 @@ use denote.Ref.{now}
 use borrow.Author.Needs.{needs}
 use Rattle.walk_back.proofs.refusal.place_known.Statement.{statement}
 use Rattle.walk_back.proofs.refusal.place_known.Tie as tie
-use Rattle.walk_back.proofs.refusal.place_known.Reads as reads
-use Rattle.walk_back.proofs.refusal.place_known.Lts as lts
-use Rattle.place_marks.proofs.place.is_known.Reads as is-known-reads
 
 is-known-requires : tie.Need-is-known-requires
 is-known-requires c κs = search needs

@@ -1,9 +1,6 @@
 -- `word_class::foreign::foreign` meets its contract.
 use Rattle.word_class.proofs.Words.{foreign-tests}
 use borrow.Author.Needs.{needs}
-use Rattle.word_class.proofs.foreign.foreign.Reads as reads
-use Rattle.word_class.proofs.foreign.foreign.Lts as lts
-use Rattle.bits.proofs.field.bits.Reads as bits-reads
 use Rattle.word_class.proofs.foreign.foreign.Statement.{statement}
 use Rattle.word_class.proofs.foreign.foreign.Tie as tie
 

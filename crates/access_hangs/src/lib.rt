@@ -1,0 +1,2 @@
+// The place that a load, a store or a pair hangs on.
+pub mod access;

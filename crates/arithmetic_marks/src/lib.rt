@@ -1,0 +1,2 @@
+// The marks of arithmetic, and of its iterations.
+pub mod arithmetic;

@@ -1,0 +1,2 @@
+// The marks of compares.
+pub mod compare;

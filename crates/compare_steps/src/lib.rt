@@ -1,0 +1,2 @@
+// Compares over lent singles.
+pub mod compare;

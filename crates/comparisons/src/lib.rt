@@ -1,0 +1,2 @@
+// Comparison of register words.
+pub mod compare;

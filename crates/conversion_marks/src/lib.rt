@@ -1,0 +1,2 @@
+// The marks of conversions.
+pub mod conversion;

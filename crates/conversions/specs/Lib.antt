@@ -1,3 +1,0 @@
--- What the crate's contracts mean.
-pub mod Width
-pub mod Integer

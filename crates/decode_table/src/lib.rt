@@ -1,0 +1,2 @@
+// The decode table, and a word's operation by it.
+pub mod table;

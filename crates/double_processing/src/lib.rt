@@ -1,0 +1,2 @@
+// Data processing on coprocessor 11 over lent singles.
+pub mod double;

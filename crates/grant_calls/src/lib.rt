@@ -1,0 +1,2 @@
+// The grants of a period over the buffers of the C interface.
+pub mod grant;

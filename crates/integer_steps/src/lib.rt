@@ -1,0 +1,2 @@
+// Conversions from and to integers over lent singles.
+pub mod integer;

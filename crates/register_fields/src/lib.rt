@@ -1,0 +1,2 @@
+// Which registers a data-processing word names.
+pub mod fields;

@@ -1,0 +1,2 @@
+// The marks of registers, for the watched run.
+pub mod register;

@@ -1,0 +1,30 @@
+-- `registers::registers::set_words` meets its contract.
+use borrow.Author.Needs.{needs}
+use Rattle.registers.proofs.Halves.{low-index, high-index}
+use Rattle.registers.proofs.registers.set_words.Statement.{statement}
+use Rattle.registers.proofs.registers.set_words.Tie as tie
+
+mul-at : tie.Need-mul-at
+mul-at c = search needs
+
+mul-s : tie.Need-mul-s
+mul-s c = search needs
+
+element-write-s : tie.Need-element-write-s
+element-write-s c = search needs
+
+add-s : tie.Need-add-s
+add-s c = search needs
+
+mul-s-2 : tie.Need-mul-s-2
+mul-s-2 c = search needs
+
+element-write-s-2 : tie.Need-element-write-s-2
+element-write-s-2 c = search needs
+
+returns : tie.Need-returns
+returns c = rw (high-index (c .before .args .x .0), low-index (c .before .args .x .0))
+
+pub set-words-spec : {M : Type 1} → statement M
+set-words-spec =
+    tie.close (tie.spec mul-at mul-s element-write-s add-s mul-s-2 element-write-s-2 returns)

@@ -1,0 +1,2 @@
+// Estimates of a square root.
+pub mod estimate;

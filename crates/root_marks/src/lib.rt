@@ -1,0 +1,2 @@
+// The marks of roots, and of their iterations.
+pub mod root;

@@ -1,0 +1,2 @@
+// The register sheet over the buffers of the C interface.
+pub mod register_sheet;

@@ -1,0 +1,2 @@
+// Square roots of register words.
+pub mod word;

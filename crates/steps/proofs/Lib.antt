@@ -1,3 +1,0 @@
--- Laws of the crate's proofs.
-
-mod Flags

@@ -1,0 +1,2 @@
+// Register words as integers.
+pub mod to;

@@ -1,0 +1,2 @@
+// The watched run over the buffers of the C interface.
+pub mod call;

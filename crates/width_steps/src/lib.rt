@@ -1,0 +1,2 @@
+// Conversions between the widths over lent singles.
+pub mod width;

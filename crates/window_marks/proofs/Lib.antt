@@ -1,0 +1,3 @@
+-- Laws of the crate's proofs.
+pub mod Bytes
+pub mod Ones

@@ -1,0 +1,2 @@
+// The marks of a window's words: tested and counted in one pass.
+pub mod marks;
