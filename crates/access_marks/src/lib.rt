@@ -1,4 +1,6 @@
 // Loads, stores and pairs of the watched run: the work of crate `memory` with the marks that it leaves, from one decoding.
+#![tactic(auto)]
+
 mod one;
 
 ghost use Rattle.std.specs.Prelude.{◌≡◌, List, ℕ};

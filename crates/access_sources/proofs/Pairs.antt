@@ -6,7 +6,7 @@ use mathlib.Core.List.{[], ◌∷◌}
 use Rattle.bits.specs.Field.{field, bit_of}
 use lib.Ieee.{binary32, binary64}
 use Rattle.registers.specs.Registers.{sreg_of, dreg_of, low_index, high_index}
-use Rattle.machine.specs.Place.{single, place, number, s_word}
+use Rattle.machine.specs.Place.{single, core, place, number, s_word}
 use Rattle.machine.proofs.Numbers.{number-place}
 use Rattle.meaning.specs.Step.{Step, copy}
 use Rattle.addresses.proofs.Singles.{low_single, high_single}
@@ -37,13 +37,20 @@ module _ (t a x b q m : ℕ) where
   pub copied_none : (q ≡ x → ⊥) → (q ≡ t → ⊥) → Tracing (Two t a x b) m q Kept
   copied_none n l w u = rw (other_at (place x) (Present-place x) q (miss x n), other_at (place t) (Present-place t) q (miss t l)) refl
 
+-- the steps of a pair by places, and by numbers
+to_cores : (s z t x : ℕ) → t < 16 → x < 16 → Two (32 + t) (s % 32) (32 + x) (z % 32) ≡ copy (core t) (s_word s) ∷ copy (core x) (s_word z) ∷ []
+to_cores s z t x h k = rw (place-core t h, place-core x k, single_place s, single_place z) refl
+
+from_cores : (s z t x : ℕ) → t < 16 → x < 16 → Two (s % 32) (32 + t) (z % 32) (32 + x) ≡ copy (s_word s) (core t) ∷ copy (s_word z) (core x) ∷ []
+from_cores s z t x h k = rw (place-core t h, place-core x k, single_place s, single_place z) refl
+
 -- the words of a pair by number, loaded and stored
 module _ (op s z t x : ℕ) (e : t ≡ field op 12 15) (g : x ≡ field op 16 19) (h : t < 16) (k : x < 16) (q m : ℕ) (r : Source) where
   pub pair_load : bit_of op 20 ≡ true → Tracing (Two (32 + t) (s % 32) (32 + x) (z % 32)) m q r → Tracing (pair_of (bit_of op 20) op (s_word s) (s_word z)) m q r
-  pair_load b f = rw (b, ← e, ← g) (subst (λ (y : Step). Tracing y m q r) (rw (place-core t h, place-core x k, single_place s, single_place z) refl) f)
+  pair_load b f = rw (b, ← e, ← g) (subst (λ (y : Step). Tracing y m q r) (to_cores s z t x h k) f)
 
   pub pair_store : bit_of op 20 ≡ false → Tracing (Two (s % 32) (32 + t) (z % 32) (32 + x)) m q r → Tracing (pair_of (bit_of op 20) op (s_word s) (s_word z)) m q r
-  pair_store b f = rw (b, ← e, ← g) (subst (λ (y : Step). Tracing y m q r) (rw (place-core t h, place-core x k, single_place s, single_place z) refl) f)
+  pair_store b f = rw (b, ← e, ← g) (subst (λ (y : Step). Tracing y m q r) (from_cores s z t x h k) f)
 
 module _ (op b n m q : ℕ) (e : b ≡ field op 5 5) (r : Source) where
   pub pair_double : n ≡ dreg_of (op % 16) b → (x y : ℕ) → x ≡ low_index n → y ≡ high_index n → Tracing (pair_of (bit_of op 20) op (s_word x) (s_word y)) m q r

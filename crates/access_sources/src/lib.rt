@@ -1,4 +1,6 @@
 // Where an unknown place came from in a load, a store or a pair. Every word that moves has one source, so that no mark is looked at.
+#![tactic(auto)]
+
 mod pair;
 mod words;
 

@@ -1,4 +1,6 @@
 // An exit or a stop as its kind and the five words of an answer: count, place, address, word, known places.
+#![tactic(auto)]
+
 ghost use Rattle.std.specs.Prelude.{◌≡◌, [], ◌∷◌, ◌^◌, ◌<◌, length};
 ghost use Rattle.meaning.specs.Stop.{report};
 ghost use Rattle.vfp.specs.Call.{exit_report};

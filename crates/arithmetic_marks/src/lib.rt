@@ -1,2 +1,4 @@
 // The marks of arithmetic, and of its iterations.
+#![tactic(auto)]
+
 pub mod arithmetic;

@@ -5,7 +5,7 @@ ghost use Rattle.bits.specs.Psr.{holds, one_of, nzcv_of, psr_of};
 use super::field::bit;
 
 // The condition flags. The Thumb bit stands in the machine beside them; the other parts of the CPSR are left out.
-#[derive(Drop)]
+#[derive(Clone, Copy)]
 pub struct Psr {
     pub n: bool,
     pub z: bool,

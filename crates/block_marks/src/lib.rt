@@ -1,4 +1,6 @@
 // The marks of a contiguous transfer of singles, from or to the words from an address on.
+#![tactic(auto)]
+
 ghost use Rattle.std.specs.Prelude.{◌≡◌, true, false, length};
 ghost use Rattle.std.specs.Float.{binary32};
 ghost use Rattle.meaning.specs.Step.{after_marks};

@@ -1,2 +1,4 @@
 // The marks of compares.
+#![tactic(auto)]
+
 pub mod compare;

@@ -1,2 +1,4 @@
 // Compares over lent singles.
+#![tactic(auto)]
+
 pub mod compare;

@@ -7,7 +7,7 @@ ghost use Rattle.comparisons.specs.Compare.{compare_flags, compare_exceptions};
 use exceptions::exceptions::{INVALID, nan_exceptions32, nan_exceptions64};
 use floats::word::{float32, float64};
 
-#[derive(Drop)]
+#[derive(Clone, Copy)]
 pub struct Compared {
     pub flags: u32,
     pub exceptions: u32,

@@ -1,2 +1,4 @@
 // Comparison of register words.
+#![tactic(auto)]
+
 pub mod compare;

@@ -1,2 +1,4 @@
 // The marks of conversions.
+#![tactic(auto)]
+
 pub mod conversion;

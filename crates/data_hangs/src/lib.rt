@@ -1,2 +1,4 @@
 // The place that a word of data processing hangs on.
+#![tactic(auto)]
+
 pub mod data;

@@ -1,4 +1,6 @@
 // The marks of data processing: the watched run's half beside crate processing.
+#![tactic(auto)]
+
 mod word;
 
 ghost use Rattle.std.specs.Prelude.{◌≡◌};

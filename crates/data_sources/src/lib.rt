@@ -1,4 +1,6 @@
 // Where an unknown place came from in a word of data processing.
+#![tactic(auto)]
+
 mod once;
 
 ghost use Rattle.std.specs.Prelude.{◌≡◌, false, ◌+◌, ◌*◌, ◌≤◌, length};

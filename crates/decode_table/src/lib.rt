@@ -1,2 +1,4 @@
 // The decode table, and a word's operation by it.
+#![tactic(auto)]
+
 pub mod table;

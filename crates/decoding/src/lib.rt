@@ -1,2 +1,4 @@
 // Which operation a data-processing word names.
+#![tactic(auto)]
+
 pub mod operation;

@@ -4,7 +4,7 @@ ghost use Rattle.decoding.specs.Operation.{operation_numbered, arithmetic_of};
 
 use numbers::arithmetic::Arithmetic;
 
-#[derive(Drop)]
+#[derive(Clone, Copy)]
 pub enum Operation {
     Undefined,
     // d + n * m, d - n * m, -d + n * m, -d - n * m

@@ -7,7 +7,7 @@ ghost use Rattle.digits.specs.Digits.{IsNumber, IsOperand};
 use rounding::lift::lift;
 
 // m * 2 ^ e / 2 ^ 1126, m of 53 digits.
-#[derive(Drop)]
+#[derive(Clone, Copy)]
 pub struct Operand {
     pub m: u64,
     pub e: u64,

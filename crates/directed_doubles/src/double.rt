@@ -19,7 +19,7 @@ use quotients::quotient::quotient64;
 use rounding::rounding::rounding_of;
 use sums::sum::sum64;
 
-#[derive(Drop)]
+#[derive(Clone, Copy)]
 struct Composed64 {
     pub bits: u64,
     pub first: u32,

@@ -20,7 +20,7 @@ use rounding::rounding::rounding_of;
 use sums::sum::sum32;
 
 // A result before flushing, what an accumulate's product raised before it, and what the last operation raised.
-#[derive(Drop)]
+#[derive(Clone, Copy)]
 struct Composed32 {
     pub bits: u32,
     pub first: u32,

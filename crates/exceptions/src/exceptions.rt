@@ -13,13 +13,13 @@ pub const DIVISION_BY_ZERO: u32 = 2;
 pub const UNDERFLOW: u32 = 8;
 
 // A single's word and what making it raised.
-#[derive(Drop)]
+#[derive(Clone, Copy)]
 pub struct Raised32 {
     pub bits: u32,
     pub exceptions: u32,
 }
 
-#[derive(Drop)]
+#[derive(Clone, Copy)]
 pub struct Raised64 {
     pub bits: u64,
     pub exceptions: u32,

@@ -1,4 +1,6 @@
 // What each routine is granted of a period's words.
+#![tactic(auto)]
+
 mod refusal;
 
 ghost use Rattle.grants.specs.Grant.{reply};

@@ -1,11 +1,12 @@
 // The place that a word of a class hangs on, if any: Undefined, a stepping word, a load or store. The condition stands before them, in crate
 // `watch`, and a transfer hangs on nothing.
+#![tactic(auto)]
 
 ghost use Rattle.std.specs.Prelude.{◌≡◌, cond};
 ghost use Rattle.meaning.specs.Hang.{clear, at};
 ghost use Rattle.hangs.specs.Hang.{hang_is};
 
-#[derive(Drop)]
+#[derive(Clone, Copy)]
 pub enum Hang {
     Clear,
     At(usize),

@@ -1,2 +1,4 @@
 // Conversions from and to integers over lent singles.
+#![tactic(auto)]
+
 pub mod integer;

@@ -1,4 +1,6 @@
 // The number of known places, kept beside the marks: of a word of marks and of a window's.
+#![tactic(auto)]
+
 ghost use Rattle.std.specs.Prelude.{◌≡◌, ◌<◌, ◌≤◌, length, set};
 ghost use Rattle.bits.specs.Psr.{one_of};
 ghost use Rattle.machine.specs.Place.{before};

@@ -1,3 +1,1 @@
 -- The law of the calls over a lent machine.
-
-pub mod Lent

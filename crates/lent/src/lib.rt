@@ -1,4 +1,6 @@
 // The three calls of vfp.rs as they stand in Rust, over a lent machine: each calls the function by value and stores the machine back.
+#![tactic(auto)]
+
 ghost use Rattle.std.specs.Prelude.{◌≡◌, List, ℕ};
 ghost use Rattle.machine.specs.Place.{state};
 ghost use Rattle.processing.specs.Data.{data_tree};

@@ -39,7 +39,7 @@ pub fn run_limit(list: usize, base: u32, words: usize, thumb: bool) -> u8
 }
 
 // The first of refusals 1 to 7 that applies, or 0, and then how many marks are 1.
-#[derive(Drop)]
+#[derive(Clone, Copy)]
 pub struct Limit {
     pub number: u8,
     pub ones: usize,

@@ -1,11 +1,13 @@
 // The pairs of a chain in a lent list. They are written as the run is walked back, the last first, and turned round at the end.
+#![tactic(auto)]
+
 ghost use Rattle.std.specs.Prelude.{◌≡◌, ◌+◌, ◌*◌, ◌<◌, ◌≤◌, length};
 ghost use Rattle.links.specs.Pairs.{back_of, linked_in, swapped, Turned};
 
 use sources::Source;
 
 // The place before what was walked back, and how many pairs there are.
-#[derive(Drop)]
+#[derive(Clone, Copy)]
 pub struct Back {
     pub place: u32,
     pub pairs: usize,

@@ -1,2 +1,4 @@
 // What a line of a list says.
+#![tactic(auto)]
+
 pub mod line;

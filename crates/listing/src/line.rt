@@ -7,7 +7,7 @@ use place_names::place::{CONTROL, EXCEPTIONS, fits, place_of};
 use tokens::token::first;
 
 // What a line should have had.
-#[derive(Drop)]
+#[derive(Clone, Copy)]
 pub enum Expected {
     Item,
     Place,
@@ -22,7 +22,7 @@ pub enum Expected {
 
 // An instruction word, a place's value, places that are unknown (they are named after the first so many bytes of the line), the
 // window, or none of these.
-#[derive(Drop)]
+#[derive(Clone, Copy)]
 pub enum Item {
     Nothing,
     Word(u32),
@@ -33,7 +33,7 @@ pub enum Item {
 }
 
 // A place of a list of places, with where to go on; or the list's end.
-#[derive(Drop)]
+#[derive(Clone, Copy)]
 pub enum Next {
     Place { place: u32, from: usize },
     End,

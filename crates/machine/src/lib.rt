@@ -1,4 +1,6 @@
 // The machine by value, and its window of memory.
+#![tactic(auto)]
+
 pub mod address;
 pub mod place;
 pub mod window;
@@ -9,7 +11,7 @@ ghost use Rattle.machine.specs.Machine.{new_machine};
 use bits::psr::Psr;
 
 // The singles as raw bits, the core registers, FPSCR, FPEXC, the condition flags and the Thumb bit.
-#[derive(Drop)]
+#[derive(Clone, Copy)]
 pub struct Machine {
     pub s: [u32; 32],
     pub r: [u32; 16],
@@ -20,7 +22,7 @@ pub struct Machine {
 }
 
 // What is no array of a machine: it travels by value beside the lent arrays.
-#[derive(Drop)]
+#[derive(Clone, Copy)]
 pub struct Controls {
     pub fpscr: u32,
     pub fpexc: u32,

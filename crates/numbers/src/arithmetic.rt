@@ -7,7 +7,7 @@ ghost use Rattle.numbers.specs.Arithmetic.{apply, applied, accumulates};
 use floats::word::{bits32, bits64, float32, float64, is_nan32, is_nan64};
 
 // In the order of word bits 23, 21, 20, 6 as a number.
-#[derive(Drop)]
+#[derive(Clone, Copy)]
 pub enum Arithmetic {
     // d + n * m
     MultiplyAccumulate,
@@ -25,14 +25,14 @@ pub enum Arithmetic {
 }
 
 // The operands n and m of one step, and the old d.
-#[derive(Drop)]
+#[derive(Clone, Copy)]
 struct Singles {
     pub n: f32,
     pub m: f32,
     pub d: f32,
 }
 
-#[derive(Drop)]
+#[derive(Clone, Copy)]
 struct Doubles {
     pub n: f64,
     pub m: f64,
@@ -118,13 +118,13 @@ fn apply64(kind: Arithmetic, x: Doubles) -> f64
 }
 
 // A native result's word, and whether there is one: of no NaN, and made of none.
-#[derive(Drop)]
+#[derive(Clone, Copy)]
 pub struct Quick32 {
     pub taken: bool,
     pub bits: u32,
 }
 
-#[derive(Drop)]
+#[derive(Clone, Copy)]
 pub struct Quick64 {
     pub taken: bool,
     pub bits: u64,

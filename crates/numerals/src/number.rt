@@ -3,7 +3,7 @@ ghost use Rattle.std.specs.Prelude.{◌≡◌, ◌%◌, ◌≤◌, ◌<◌, leng
 ghost use Rattle.numerals.specs.Number.{digit_of, read_from, hex_of, decimal_of, value_of, digit_text, digits_text, stripped};
 
 // The number that a text is, below 2 ^ 32.
-#[derive(Drop)]
+#[derive(Clone, Copy)]
 pub enum Number {
     Value(u32),
     Wrong,

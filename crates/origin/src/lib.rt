@@ -1,4 +1,6 @@
 // Where an unknown place came from (2026-09): the watched run, and a chain to a place that is unknown after it.
+#![tactic(auto)]
+
 ghost use Rattle.std.specs.Prelude.{◌≡◌};
 ghost use Rattle.machine.specs.Place.{state};
 ghost use Rattle.place_marks.specs.Word.{map_in};
@@ -15,7 +17,7 @@ use walk_back::walk;
 use watch::{Watched, watch_words};
 
 // The run's answer; the refusal of the chain, 11, 12 or 13, or 0; the chain's first place, and how many pairs it has.
-#[derive(Drop)]
+#[derive(Clone, Copy)]
 pub struct Originated {
     pub watched: Watched,
     pub refusal: u8,

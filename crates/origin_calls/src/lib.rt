@@ -1,4 +1,6 @@
 // The origin of an unknown place over the buffers of the C interface.
+#![tactic(auto)]
+
 ghost use Rattle.std.specs.Prelude.{◌≡◌, [], ◌∷◌, ◌++◌, ◌^◌, ◌<◌, ◌≤◌, length};
 ghost use Rattle.meaning.specs.Stop.{report};
 ghost use Rattle.run_word.specs.Stop.{stop_of};

@@ -132,7 +132,7 @@ module _ (base : ℕ) (list : List ℕ) (m : ℕ) (v : List ℕ) (thumb : ℕ) (
         let zs = Sizes-left base list a μ n za in
         let k = (watch_reply base list a μ).map in
         rw (n, n')
-        (reported_Alike (word_of k.marks) (word_of (watch_reply base list b μ).map.marks) _ _ (ap (λ (ν : Map). word_of ν.marks) x.map) x.report x.count x.map zs.0 (Sizes-left base list b μ n' zb).0 (known_of k.marks zs.1.s zs.1.r k.words) (λ i h. x.agree i) (window_place _ _ _ x.agree))
+        (reported_Alike (word_of k.marks) (word_of (watch_reply base list b μ).map.marks) (watch_reply base list a μ) (watch_reply base list b μ) (ap (λ (ν : Map). word_of ν.marks) x.map) x.report x.count x.map zs.0 (Sizes-left base list b μ n' zb).0 (known_of k.marks zs.1.s zs.1.r k.words) (λ i h. x.agree i) (window_place k (watch_reply base list a μ).leaves (watch_reply base list b μ).leaves x.agree))
 
     -- turned back
     turned_back : eqb (limit_of base list a μ) 0 ≡ false → Alike (watched_from base list a m v) (watched_from base list b m v)

@@ -35,7 +35,7 @@ after-Sized zero each st z = z
 after-Sized (suc n) each st z = writes_Sized (after n each st) (each n) (after n each st) (after-Sized n each st z)
 
 act-Sized : (x : Act) (st : State) → Sized st.machine → Sized (act x st).machine
-act-Sized x st z = writes_Sized _ x.tail _ (after-Sized x.count x.each st z)
+act-Sized x st z = writes_Sized (after x.count x.each st) x.tail (after x.count x.each st) (after-Sized x.count x.each st z)
 
 -- ---- marks
 

@@ -7,7 +7,7 @@ use rounding::rounding::{Rounding, cut, least};
 
 // What was rounded, as a single's word; whether nothing was dropped; whether, rounded as if exponents had no bound, it is beyond the
 // largest finite value; whether, before rounding, it is not 0 and smaller than the least normal value.
-#[derive(Drop)]
+#[derive(Clone, Copy)]
 pub struct Settled32 {
     pub bits: u32,
     pub exact: bool,
@@ -16,7 +16,7 @@ pub struct Settled32 {
 }
 
 // The same as a double's bits.
-#[derive(Drop)]
+#[derive(Clone, Copy)]
 pub struct Settled64 {
     pub bits: u64,
     pub exact: bool,

@@ -1,4 +1,6 @@
 // The marks of VMOV between two core registers and either a double or two singles.
+#![tactic(auto)]
+
 ghost use Rattle.std.specs.Prelude.{◌≡◌, List, ℕ};
 ghost use Rattle.bits.specs.Field.{bit_of};
 ghost use Rattle.machine.specs.Place.{s_word};

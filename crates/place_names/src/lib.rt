@@ -1,2 +1,4 @@
 // Places as text: their names and numbers.
+#![tactic(auto)]
+
 pub mod place;

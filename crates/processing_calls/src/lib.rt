@@ -1,4 +1,5 @@
 // The call of data processing over the buffers of the C interface.
+#![tactic(auto)]
 
 ghost use Rattle.std.specs.Prelude.{◌≡◌, List, ℕ, eqb};
 ghost use Rattle.processing.specs.Data.{data_tree};

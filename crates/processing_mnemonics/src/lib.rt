@@ -1,2 +1,4 @@
 // A data-processing word as an assembler writes it.
+#![tactic(auto)]
+
 pub mod data;

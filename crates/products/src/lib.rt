@@ -1,2 +1,4 @@
 // Products by integer work on the bits, in every rounding mode.
+#![tactic(auto)]
+
 pub mod product;

@@ -17,7 +17,7 @@ use exceptions::exceptions::{
 use rounding::rounding::Rounding;
 
 // high * 2 ^ 45 + low
-#[derive(Drop)]
+#[derive(Clone, Copy)]
 struct Product {
     pub high: u64,
     pub low: u64,

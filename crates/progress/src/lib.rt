@@ -1,4 +1,6 @@
 // How far a run is: its state between two words, what it hands back, and the words not yet run.
+#![tactic(auto)]
+
 pub mod rest;
 
 ghost use Rattle.std.specs.Prelude.{◌≡◌, false};
@@ -8,7 +10,7 @@ use machine::{Controls, Machine};
 use run_word::Stop;
 
 // The stop, how many words were counted, and the machine handed back.
-#[derive(Drop)]
+#[derive(Clone, Copy)]
 pub struct Ran {
     pub stop: Stop,
     pub count: usize,
@@ -16,7 +18,7 @@ pub struct Ran {
 }
 
 // The state of a run between two words, in ARM state: the machine in its parts, which are lent to the words.
-#[derive(Drop)]
+#[derive(Clone, Copy)]
 pub struct Progress {
     pub s: [u32; 32],
     pub r: [u32; 16],

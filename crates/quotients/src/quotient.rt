@@ -17,7 +17,7 @@ use exceptions::exceptions::{
 use rounding::rounding::Rounding;
 
 // A quotient's digits so far, and what is left.
-#[derive(Drop)]
+#[derive(Clone, Copy)]
 struct Quotient {
     pub q: u64,
     pub r: u64,

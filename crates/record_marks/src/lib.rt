@@ -1,4 +1,6 @@
 // The marks of a record, which are numbers there.
+#![tactic(auto)]
+
 ghost use Rattle.std.specs.Prelude.{◌≡◌, true, ◌+◌, ◌*◌, ◌<◌, ◌≤◌, length, take, drop};
 ghost use Rattle.machine.specs.Place.{before};
 ghost use Rattle.window_marks.specs.Marks.{bits_only};

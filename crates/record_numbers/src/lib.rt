@@ -1,4 +1,6 @@
 // The numbers of a record: 32 bits as bytes, little end first.
+#![tactic(auto)]
+
 pub mod count;
 
 ghost use Rattle.std.specs.Prelude.{◌≡◌, ◌+◌, ◌*◌, ◌<◌, ◌≤◌, length, get_or, take, drop};

@@ -1,4 +1,6 @@
 // Whether a record is turned away: 9, then 10, then the refusals of a watched run on its own numbers.
+#![tactic(auto)]
+
 pub mod field;
 
 ghost use Rattle.std.specs.Prelude.{◌≡◌, ◌^◌, ◌<◌};

@@ -1,4 +1,6 @@
 // The writer of a record: its numbers one after another into a lent buffer.
+#![tactic(auto)]
+
 ghost use Rattle.std.specs.Prelude.{◌≡◌, ◌+◌, ◌*◌, ◌%◌, ◌^◌, ◌<◌, ◌≤◌, length};
 ghost use Rattle.machine.specs.Place.{before};
 ghost use Rattle.window_marks.specs.Marks.{bytes_of};

@@ -1,1 +1,2 @@
 // The bytes of a recorded cycle as definitions, with their laws. No code.
+#![tactic(auto)]

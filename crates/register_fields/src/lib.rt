@@ -1,2 +1,4 @@
 // Which registers a data-processing word names.
+#![tactic(auto)]
+
 pub mod fields;

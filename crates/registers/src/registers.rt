@@ -3,10 +3,10 @@
 ghost use Rattle.std.specs.Prelude.{◌≡◌, ◌%◌, ◌<◌, ◌^◌, ◌/◌, get_or, set};
 ghost use Rattle.registers.specs.Registers.{sreg_of, dreg_of, single_index, low_index, high_index, double_of};
 
-#[derive(Drop)]
+#[derive(Clone, Copy)]
 pub struct Single(pub usize);
 
-#[derive(Drop)]
+#[derive(Clone, Copy)]
 pub struct Double(pub usize);
 
 // The number of a single: its four bits and the extra bit below them.
@@ -58,7 +58,7 @@ pub fn set_double(s: &mut [u32; 32], x: Double, v: u64)
 }
 
 // The two words of a double.
-#[derive(Drop)]
+#[derive(Clone, Copy)]
 pub struct Words {
     pub low: u32,
     pub high: u32,

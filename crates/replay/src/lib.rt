@@ -1,4 +1,6 @@
 // The replay of a recorded cycle.
+#![tactic(auto)]
+
 mod cycle;
 
 ghost use Rattle.std.specs.Prelude.{◌≡◌};

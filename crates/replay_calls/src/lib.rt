@@ -1,4 +1,6 @@
 // The replay of a recorded cycle over the buffers of the C interface.
+#![tactic(auto)]
+
 ghost use Rattle.std.specs.Prelude.{◌≡◌};
 ghost use Rattle.outcomes.specs.WatchOutcome.{watch_outcome};
 ghost use Rattle.outcomes.specs.Replay.{valid_replay, ReplayedPromise};

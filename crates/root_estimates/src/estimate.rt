@@ -57,7 +57,7 @@ pub fn inverse(y: u64, top: u64) -> u64
 }
 
 // An estimate of a root, what its square leaves, and whether that is little enough.
-#[derive(Drop)]
+#[derive(Clone, Copy)]
 pub struct Estimate {
     pub root: u64,
     pub rest: u64,

@@ -1,2 +1,4 @@
 // Estimates of a square root.
+#![tactic(auto)]
+
 pub mod estimate;

@@ -1,2 +1,4 @@
 // Square roots as definitions, and a binary digit at a time.
+#![tactic(auto)]
+
 pub mod root;

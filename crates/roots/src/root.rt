@@ -10,7 +10,7 @@ use rounding::lift::lift;
 use rounding::rounding::{Rounded, Rounding, step};
 
 // A root's digits so far, and what is left of the number.
-#[derive(Drop)]
+#[derive(Clone, Copy)]
 struct Digits {
     pub root: u64,
     pub rest: u64,

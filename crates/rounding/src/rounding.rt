@@ -4,7 +4,7 @@ ghost use Prim.Native.Nat.{◌*◌, ◌≤◌, ◌<◌, ◌^◌, min, compare};
 ghost use Rattle.rounding.specs.Rounding.{rounding_of, move, increment, IsCut};
 
 // FPSCR 23:22.
-#[derive(Drop)]
+#[derive(Clone, Copy)]
 pub enum Rounding {
     Nearest,
     Up,
@@ -29,7 +29,7 @@ pub fn rounding_of(control: u32) -> Rounding
 }
 
 // A size rounded to a whole number, and whether nothing was left.
-#[derive(Drop)]
+#[derive(Clone, Copy)]
 pub struct Rounded {
     pub kept: u64,
     pub exact: bool,

@@ -1,4 +1,6 @@
 // The plain run over a list of instruction words.
+#![tactic(auto)]
+
 ghost use Rattle.std.specs.Prelude.{◌≡◌, false};
 ghost use Rattle.machine.specs.Place.{state};
 ghost use Rattle.meaning.specs.Run as R;

@@ -1,4 +1,5 @@
 // The plain run over the buffers of the C interface.
+#![tactic(auto)]
 
 ghost use Rattle.std.specs.Prelude.{◌≡◌};
 ghost use Rattle.run.specs.Run.{run_reply};

@@ -1,4 +1,6 @@
 // The log of a watched run: of each word what walking back through it needs.
+#![tactic(auto)]
+
 ghost use Rattle.std.specs.Prelude.{◌≡◌, not, length, set};
 ghost use Rattle.bits.specs.Field.{field};
 ghost use Rattle.bits.specs.Psr.{holds};

@@ -1,9 +1,11 @@
 // One word of a run: what follows it, and why a run stops.
+#![tactic(auto)]
+
 mod data;
 pub mod word;
 
 // Why a run stopped. A plain run never hangs.
-#[derive(Drop)]
+#[derive(Clone, Copy)]
 pub enum Stop {
     Finished,
     Foreign,
@@ -14,7 +16,7 @@ pub enum Stop {
 }
 
 // What follows a word: the next one, a stop after it, or a stop before it.
-#[derive(Drop)]
+#[derive(Clone, Copy)]
 pub enum Next {
     On,
     Last,

@@ -19,7 +19,7 @@ use vfp::current_pc;
 use word_class::class::{Class, enabled_class};
 
 // What is no array after a word, and what follows it.
-#[derive(Drop)]
+#[derive(Clone, Copy)]
 pub struct Executed {
     pub controls: Controls,
     pub next: Next,

@@ -1,3 +1,5 @@
 // Data processing of scalars: where FPSCR's LEN is 0 no word steps, and the plain run takes it ahead of the vectors' loops. The unary words
 // are in crates of their own.
+#![tactic(auto)]
+
 pub mod arithmetic;

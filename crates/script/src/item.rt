@@ -15,7 +15,7 @@ use machine::place::{CONTROL, EXCEPTIONS, FLAGS, NZCV, WINDOW, control_of};
 use place_marks::place::set_known;
 
 // The window's base and count of words, whether one was given, and the count of instruction words.
-#[derive(Drop)]
+#[derive(Clone, Copy)]
 pub struct Layout {
     pub base: u32,
     pub words: usize,
@@ -24,7 +24,7 @@ pub struct Layout {
 }
 
 // What a line comes to.
-#[derive(Drop)]
+#[derive(Clone, Copy)]
 pub enum Step {
     On(Layout),
     Wrong(Mistake),

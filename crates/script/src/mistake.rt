@@ -1,7 +1,7 @@
 // What is wrong with a line.
 use listing::line::Expected;
 
-#[derive(Drop)]
+#[derive(Clone, Copy)]
 pub enum Mistake {
     Item(Expected),
     // a word of the window that is not there; the window has so many

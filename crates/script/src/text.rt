@@ -9,7 +9,7 @@ use super::mistake::Mistake;
 use machine::place::WINDOW;
 use tokens::token::{before, content};
 
-#[derive(Drop)]
+#[derive(Clone, Copy)]
 pub enum Taken {
     All(Layout),
     Wrong { line: usize, mistake: Mistake },

@@ -19,12 +19,10 @@ unfolding lines_text
 lines_length zero each = refl
 lines_length (suc n) each = omega (arith, length-append (lines_text n each) (line_text (each n)), lines_length n each, line_length (each n))
 
--- a text copied to the part of a page that starts where p ends
-copied : (a : ℕ) (p d page text part : List ℕ) → length p ≡ a → page ≡ p ++ d
-    → part ≡ take (length text) text ++ drop (length text) (mid_of a (length page - a) page)
-    → put_mid a (length page - a) page part ≡ (p ++ text) ++ drop (length text) d
-copied a p d page text part h e f =
-    rw (none, left, append-nil, f, all, right, take-length text) (sym (append_assoc p text (drop (length text) d)))
+-- a text written to the part of a page that starts where p ends
+written : (a : ℕ) (p d page text : List ℕ) → length p ≡ a → page ≡ p ++ d
+    → put_mid a (length text) page text ≡ (p ++ text) ++ drop (length text) d
+written a p d page text h e = rw (left, right) (sym (append_assoc p text (drop (length text) d)))
   where
     left : take a page ≡ p
     left = ap (take a) e ∙ take_at p d a h
@@ -32,21 +30,18 @@ copied a p d page text part h e f =
     right : drop a page ≡ d
     right = ap (drop a) e ∙ drop_at p d a h
 
-    all : take (length page - a) (drop a page) ≡ drop a page
-    all = take_all (length page - a) (drop a page) (omega (arith, length-drop a page))
-
-    none : drop (length page - a) (drop a page) ≡ []
-    none = let h : length (drop a page) ≤ length page - a = omega (arith, length-drop a page) in drop_of_length-le (drop a page) h
-
 -- a line more
-pub line_more : (n : ℕ) (each : ℕ → Line) (page₀ page text part : List ℕ) → page ≡ lines_text n each ++ drop (41 * n) page₀ → text ≡ line_text (each n)
-    → part ≡ take (length text) text ++ drop (length text) (mid_of (41 * n) (length page - 41 * n) page)
-    → put_mid (41 * n) (length page - 41 * n) page part ≡ lines_text (n + 1) each ++ drop (41 * (n + 1)) page₀
+pub line_more : (n : ℕ) (each : ℕ → Line) (page₀ page text part : List ℕ) → page ≡ lines_text n each ++ drop (41 * n) page₀ → text ≡ line_text (each n) → part ≡ text
+    → put_mid (41 * n) (41 * n + 41 - 41 * n) page part ≡ lines_text (n + 1) each ++ drop (41 * (n + 1)) page₀
 unfolding lines_text
 line_more n each page₀ page text part e f g =
-    copied (41 * n) (lines_text n each) (drop (41 * n) page₀) page text part (lines_length n each) e g
+    rw g (ap (λ (k : ℕ). put_mid (41 * n) k page text) (whole (41 * n) ∙ sym (ap length f ∙ line_length (each n))))
+    ∙ written (41 * n) (lines_text n each) (drop (41 * n) page₀) page text (lines_length n each) e
     ∙ rw (f, line_length (each n), drop-drop 41 (41 * n) page₀, add-one n) (ap (λ (k : ℕ). lines_text (suc n) each ++ drop k page₀) (next n))
   where
+    whole : (a : ℕ) → a + 41 - a ≡ 41
+    whole a = omega arith
+
     next : (n : ℕ) → 41 * n + 41 ≡ 41 * suc n
     next n = omega arith
 

@@ -1,4 +1,6 @@
 // The register sheet for the cabinet door: the words and marks of the doubles, a line each.
+#![tactic(auto)]
+
 ghost use Rattle.std.specs.Prelude.{◌≡◌, List, ℕ, ◌<◌};
 ghost use Rattle.place_marks.specs.Word.{map_in};
 ghost use Rattle.sheet.specs.Line.{line, letter_of, line_text};
@@ -62,7 +64,7 @@ pub fn lay_out(machine: Machine, marks: u64, page: &mut [u8]) -> u8
     while n < 16 {
         let text = double_line(&s, marks, n);
         let at = 41 * n;
-        bytes::copy(&text, &mut page[at..]);
+        page[at..at + 41].copy_from_slice(&text);
         n += 1;
     }
     0

@@ -2,7 +2,7 @@
 ghost use Rattle.std.specs.Prelude.{◌≡◌, cond, ltb, ◌≤◌};
 ghost use Rattle.short_vectors.specs.Vector.{precision, bank_of, stride_of, step_of, second_of, Vectored, Steppable};
 
-#[derive(Drop)]
+#[derive(Clone, Copy)]
 pub struct Vector {
     pub iterations: usize,
     pub stride: usize,

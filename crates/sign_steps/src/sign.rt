@@ -9,7 +9,7 @@ use registers::registers::{Double, Single, Words, get_single, get_words, set_sin
 use short_vectors::vector::Vector;
 
 // What becomes of the sign: VMOV, VABS, VNEG.
-#[derive(Drop)]
+#[derive(Clone, Copy)]
 pub enum SignOperation {
     Copy,
     Absolute,

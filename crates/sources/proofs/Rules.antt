@@ -117,7 +117,9 @@ module _ (x : Step) (m q : ℕ) where
     pub rule_itself : q ≡ number exceptions → (b : Bool) → Tells m (number exceptions) b → b ≡ false → Tracing x m q (From (number exceptions))
     rule_itself e b h g =
         from_picked (exceptions ∷ t) (number exceptions) (raised_at e)
-        (λ w z. rw place-exceptions (pick_first (map_in m w) exceptions t (ap (known (map_in m w)) (sym place-exceptions) ∙ sym (h w) ∙ g)))
+        (λ w z.
+        subst (λ (p : Place). Among p (exceptions ∷ t) × (known (map_in m w) p ≡ false)) (sym place-exceptions)
+        (pick_first (map_in m w) exceptions t (ap (known (map_in m w)) (sym place-exceptions) ∙ sym (h w) ∙ g)))
 
   module _ (first words from : ℕ) (r : Copying x first words from) where
     pub copy_target : first ≤ q → q < first + words → Tracing x m q (From (from + (q - first)))

@@ -1,2 +1,4 @@
 // Square roots of register words.
+#![tactic(auto)]
+
 pub mod word;

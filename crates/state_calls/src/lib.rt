@@ -1,4 +1,6 @@
 // The exported calls that run no word, over the buffers of the C interface: a machine is a state of 53 words, places 0 to 52 in order.
+#![tactic(auto)]
+
 pub mod operation;
 pub mod result;
 

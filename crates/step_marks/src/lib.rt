@@ -1,4 +1,5 @@
 // The marks of one step on the registers of a word, by the precision: a move or a sign change, a root; what is known of its operands.
+#![tactic(auto)]
 
 ghost use Rattle.std.specs.Prelude.{◌≡◌, List, ℕ};
 ghost use Rattle.short_vectors.specs.Vector.{precision};

@@ -1,4 +1,6 @@
 // Where an unknown place came from in a stepping word: back through its iterations, from the last to the first.
+#![tactic(auto)]
+
 mod iteration;
 mod vector;
 

@@ -16,14 +16,14 @@ use exceptions::exceptions::{
 };
 use rounding::rounding::{Rounding, least};
 
-#[derive(Drop)]
+#[derive(Clone, Copy)]
 struct Aligned {
     pub high: u64,
     pub left: u64,
 }
 
 // The sum m * 2 ^ e / 2 ^ 2209, with its sign.
-#[derive(Drop)]
+#[derive(Clone, Copy)]
 struct Sum {
     pub negative: bool,
     pub m: u64,
@@ -46,8 +46,8 @@ fn align(b: u64, d: u64) -> Aligned
 
 // The larger operand comes first.
 fn ordered_sum(s: bool, a: u64, ea: u64, t: bool, b: u64, eb: u64) -> Sum
-    requires fact_1 { (2 ^ 52 ≤ a) × (a < 2 ^ 53) × (b < 2 ^ 53) }
-    requires fact_2 { (eb ≤ ea) × (ea < 2100) × (b * 2 ^ eb ≤ a * 2 ^ ea) }
+    requires digits { (2 ^ 52 ≤ a) × (a < 2 ^ 53) × (b < 2 ^ 53) }
+    requires exponents { (eb ≤ ea) × (ea < 2100) × (b * 2 ^ eb ≤ a * 2 ^ ea) }
     ensures { IsSum s (a * 2 ^ ea) t (b * 2 ^ eb) result.negative result.m result.e }
 {
     let w = align(b, ea - eb);
@@ -69,8 +69,8 @@ fn ordered_sum(s: bool, a: u64, ea: u64, t: bool, b: u64, eb: u64) -> Sum
 
 // Exponents and digits in one number tell which operand is the larger.
 fn sum_digits(s: bool, a: u64, ea: u64, t: bool, b: u64, eb: u64) -> Sum
-    requires fact_1 { (2 ^ 52 ≤ a) × (a < 2 ^ 53) × (2 ^ 52 ≤ b) × (b < 2 ^ 53) }
-    requires fact_2 { (ea < 2100) × (eb < 2100) }
+    requires digits { (2 ^ 52 ≤ a) × (a < 2 ^ 53) × (2 ^ 52 ≤ b) × (b < 2 ^ 53) }
+    requires exponents { (ea < 2100) × (eb < 2100) }
     ensures { IsSum s (a * 2 ^ ea) t (b * 2 ^ eb) result.negative result.m result.e }
 {
     if eb * 0x10_0000_0000_0000 + b <= ea * 0x10_0000_0000_0000 + a {

@@ -7,7 +7,7 @@ ghost use Rattle.text.specs.Text.{text_of, clip};
 use numerals::number::{write_digits, zeros};
 use place_names::place::{CONTROL, CORE, EXC, EXCEPTIONS, FLAGS, NZCV, WINDOW};
 
-#[derive(Drop)]
+#[derive(Clone, Copy)]
 pub struct Text {
     pub bytes: [u8; 128],
     pub count: usize,

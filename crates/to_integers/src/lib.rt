@@ -1,2 +1,4 @@
 // Register words as integers.
+#![tactic(auto)]
+
 pub mod to;

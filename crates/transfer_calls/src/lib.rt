@@ -1,2 +1,4 @@
 // The call of a transfer over the buffers of the C interface.
+#![tactic(auto)]
+
 pub mod transfer;

@@ -1,2 +1,4 @@
 // A register transfer as an assembler writes it.
+#![tactic(auto)]
+
 pub mod transfer;

@@ -1,4 +1,6 @@
 // Where an unknown place came from in a register transfer.
+#![tactic(auto)]
+
 ghost use Rattle.std.specs.Prelude.{ℕ, Bool};
 ghost use Rattle.chains.specs.Steps.{act_of};
 ghost use Rattle.machine.specs.Place.{State};

@@ -1,4 +1,6 @@
 // Register transfers (vfp.rs `coprocessor_register`, MCR and MRC on coprocessors 10 and 11), over lent registers.
+#![tactic(auto)]
+
 pub mod single;
 pub mod system;
 
@@ -13,7 +15,7 @@ use machine::Controls;
 use registers::registers::{Single, sreg};
 
 // Which transfer a word is: of a system register, of a single by its number, or none, which does nothing.
-#[derive(Drop)]
+#[derive(Clone, Copy)]
 pub enum Transfer {
     System,
     Single(Single),
@@ -21,7 +23,7 @@ pub enum Transfer {
 }
 
 // What a transfer hands back beside the lent registers, and whether it branched.
-#[derive(Drop)]
+#[derive(Clone, Copy)]
 pub struct Transferred {
     pub controls: Controls,
     pub branched: bool,

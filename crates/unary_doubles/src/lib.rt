@@ -1,4 +1,6 @@
 // The unary words, compares and conversions of coprocessor 11, where LEN is 0.
+#![tactic(auto)]
+
 ghost use Rattle.std.specs.Prelude.{◌≡◌, ◌/◌, ◌%◌, ◌^◌, ◌<◌};
 ghost use Rattle.std.specs.Float.{binary64};
 ghost use Rattle.decoding.specs.Operation.{number_of};

@@ -1,4 +1,6 @@
 // The three calls of vfp.rs, by value: each takes the machine and hands it back with its exit. None looks at the condition.
+#![tactic(auto)]
+
 ghost use Rattle.std.specs.Prelude.{◌≡◌, List, ℕ, ◌+◌, ◌-◌, ◌%◌, ◌^◌};
 ghost use Rattle.machine.specs.Place.{state};
 ghost use Rattle.processing.specs.Data.{behind, data_tree};
@@ -10,7 +12,7 @@ use machine::{Controls, Machine};
 use processing::Processed;
 
 // How a call ends.
-#[derive(Drop)]
+#[derive(Clone, Copy)]
 pub enum Exit {
     Nothing,
     Undefined { pc: u32, opcode: u32 },
@@ -19,7 +21,7 @@ pub enum Exit {
 }
 
 // The exit, and the machine handed back.
-#[derive(Drop)]
+#[derive(Clone, Copy)]
 pub struct Answer {
     pub exit: Exit,
     pub machine: Machine,

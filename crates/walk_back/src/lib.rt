@@ -1,4 +1,6 @@
 // Back through the words of a run, from the last to the first: the chain of a place that is unknown after it.
+#![tactic(auto)]
+
 pub mod refusal;
 
 ghost use Rattle.std.specs.Prelude.{◌≡◌, false, not, ◌+◌, ◌*◌, ◌≤◌, length};

@@ -1,4 +1,6 @@
 // The watched run: the plain run with a map, which stops where the outcome would hang on an unknown place.
+#![tactic(auto)]
+
 ghost use Rattle.std.specs.Prelude.{◌≡◌, false, ◌+◌, ◌%◌, ◌^◌, ◌<◌, length};
 ghost use Rattle.machine.specs.Place.{state, before};
 ghost use Rattle.machine.specs.Machine.{assembled};
@@ -24,7 +26,7 @@ use watch_word::word::watch_word;
 use window_marks::marks::count_ones;
 
 // The stop, how many words were counted, the machine and the marks handed back, and how many places are known.
-#[derive(Drop)]
+#[derive(Clone, Copy)]
 pub struct Watched {
     pub stop: Stop,
     pub count: usize,

@@ -1,2 +1,4 @@
 // One watched word.
+#![tactic(auto)]
+
 pub mod word;

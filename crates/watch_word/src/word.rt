@@ -41,7 +41,7 @@ use watched_unary_doubles::watch_double;
 use watched_unary_singles::watch_single;
 
 // What is no array of the machine, the marks and what follows, after a word.
-#[derive(Drop)]
+#[derive(Clone, Copy)]
 pub struct Seen {
     pub controls: Controls,
     pub marks: u64,

@@ -1,4 +1,6 @@
 // The class of a watched word.
+#![tactic(auto)]
+
 ghost use Rattle.std.specs.Prelude.{◌≡◌, List, ℕ};
 ghost use Rattle.machine.specs.Place.{nzcv};
 ghost use Rattle.meaning.specs.Map.{known};
@@ -13,7 +15,7 @@ use word_class::enable::is_exempt;
 use word_class::foreign::foreign;
 
 // As in the plain run; or it hangs on NZCV or on FPEXC before its class is looked at, or with the unit off on r15.
-#[derive(Drop)]
+#[derive(Clone, Copy)]
 pub enum WatchedClass {
     Data,
     Access,

@@ -1,4 +1,6 @@
 // Arithmetic of scalars in the watched run: as in crate scalars, with the marks beside it.
+#![tactic(auto)]
+
 ghost use Rattle.std.specs.Prelude.{◌≡◌, ◌/◌, ◌%◌, ◌^◌, ◌<◌};
 ghost use Rattle.std.specs.Float.{binary32, binary64};
 ghost use Rattle.decoding.specs.Operation.{operation_numbered};
@@ -13,7 +15,7 @@ use register_fields::fields::{double_d, double_m, double_n, single_d, single_m, 
 use single_arithmetic::single::{quick_single, rounded_single};
 
 // FPSCR and the marks after a word.
-#[derive(Drop)]
+#[derive(Clone, Copy)]
 pub struct Watched {
     pub fpscr: u32,
     pub marks: u64,

@@ -1,4 +1,6 @@
 // The unary words, compares and conversions of coprocessor 11 in the watched run, where LEN is 0: as in crate unary_doubles, with the marks beside them.
+#![tactic(auto)]
+
 ghost use Rattle.std.specs.Prelude.{◌≡◌, ◌/◌, ◌%◌, ◌^◌, ◌<◌};
 ghost use Rattle.std.specs.Float.{binary64};
 ghost use Rattle.decoding.specs.Operation.{number_of};

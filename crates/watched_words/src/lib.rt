@@ -1,4 +1,6 @@
 // Singles in turn, from or to the words from an address on, with their marks.
+#![tactic(auto)]
+
 ghost use Rattle.std.specs.Prelude.{◌≡◌, true, false, ◌<◌, ◌≤◌, length};
 ghost use Rattle.std.specs.Float.{binary32};
 ghost use Rattle.bits.specs.Field.{bit_of};

@@ -1,2 +1,4 @@
 // Conversions between the widths over lent singles.
+#![tactic(auto)]
+
 pub mod width;

@@ -3,7 +3,7 @@ ghost use Rattle.std.specs.Prelude.{◌+◌, ◌*◌, ◌<◌, ◌≤◌, ◌≡
 ghost use Rattle.window_marks.specs.Marks.{bits_only, is_one, ones_of, bytes_of, word_at};
 
 // Whether every mark is 0 or 1, and then how many are 1.
-#[derive(Drop)]
+#[derive(Clone, Copy)]
 pub struct Counted {
     pub bits: bool,
     pub ones: usize,

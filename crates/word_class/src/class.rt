@@ -8,7 +8,7 @@ use bits::field::{bit, bits};
 use bits::psr::{Psr, check_condition};
 
 // What a run does with a word under the flags and FPEXC as they are. A skipped word is counted; off is a word of a unit that is not enabled.
-#[derive(Drop)]
+#[derive(Clone, Copy)]
 pub enum Class {
     Data,
     Access,

@@ -1,4 +1,6 @@
 // Where an unknown place came from in a word of a run, by its class.
+#![tactic(auto)]
+
 ghost use Rattle.std.specs.Prelude.{◌≡◌, ◌+◌, ◌*◌, ◌≤◌, length};
 ghost use Rattle.machine.specs.Place.{State};
 ghost use Rattle.decoding.specs.Table.{operation_table};

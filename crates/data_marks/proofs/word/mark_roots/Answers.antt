@@ -1,0 +1,7 @@
+use Rattle.data_marks.proofs.word.mark_roots.Goals as goal
+
+pub returns-then-double : goal.returns-then-double
+returns-then-double c = rw (c.if-double.true, ← c.double_d.ensures.0, ← c.double_m.ensures.0) c.root_doubles.ensures
+
+pub returns : goal.returns
+returns c = rw (c.if-double.false, ← c.single_d.ensures.0, ← c.single_m.ensures.0) c.root_singles.ensures

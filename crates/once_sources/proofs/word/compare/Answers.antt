@@ -1,0 +1,16 @@
+use Prim.Native.Nat.{ℕ}
+use mathlib.Core.Bool.{Bool}
+use lib.Ieee.{binary32, binary64}
+use Rattle.compare_steps.specs.Compare.{compare_step}
+use Rattle.register_fields.specs.Fields.{reg_d, reg_m}
+use Rattle.short_vectors.specs.Vector.{precision}
+use Rattle.sources.specs.Source.{Tracing}
+use Rattle.sources.proofs.Rules.{as_fields, as_tested}
+use Rattle.once_sources.proofs.Rules.{compare_Rule}
+use Rattle.once_sources.proofs.word.compare.Goals as goal
+
+pub returns-then-double : goal.returns-then-double
+returns-then-double c = let a = c.args in as_tested (λ (b : Bool). (any : Bool) → Tracing (compare_step (precision b) any (reg_d (precision b) a.op) (reg_m (precision b) a.op)) a.marks a.q c.source_of.result) c.if-double.true (as_fields (λ (d m : ℕ). (any : Bool) → Tracing (compare_step binary64 any d m) a.marks a.q c.source_of.result) c.double_d.ensures.0 c.double_m.ensures.0 (λ any. c.source_of.ensures _ _ _ (compare_Rule binary64 any c.double_d.result.0 c.double_m.result.0) c.of_doubles-p.ensures.0 c.of_doubles-p.ensures.0))
+
+pub returns : goal.returns
+returns c = let a = c.args in as_tested (λ (b : Bool). (any : Bool) → Tracing (compare_step (precision b) any (reg_d (precision b) a.op) (reg_m (precision b) a.op)) a.marks a.q c.source_of-2.result) c.if-double.false (as_fields (λ (d m : ℕ). (any : Bool) → Tracing (compare_step binary32 any d m) a.marks a.q c.source_of-2.result) c.single_d.ensures.0 c.single_m.ensures.0 (λ any. c.source_of-2.ensures _ _ _ (compare_Rule binary32 any c.single_d.result.0 c.single_m.result.0) c.of_singles-p.ensures.0 c.of_singles-p.ensures.0))

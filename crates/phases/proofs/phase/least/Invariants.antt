@@ -1,0 +1,12 @@
+use Rattle.phases.specs.Phase.{least_room}
+use Rattle.phases.specs.Round.{most}
+use mathlib.Core.Path.{◌≡◌}
+use Prim.Native.Nat.{◌≤◌, ◌-◌}
+use lib.ListN.{length}
+use Rattle.phases.proofs.phase.least.Given as goal
+
+abbrev pub invariant-loop-i : goal.invariant-loop-i
+invariant-loop-i l = (l.i ≤ length l.grants) × (l.words ≡ least_room (most l.limits l.left) l.i l.grants)
+
+abbrev pub decreases-loop-i : goal.decreases-loop-i
+decreases-loop-i l = length l.grants - l.i

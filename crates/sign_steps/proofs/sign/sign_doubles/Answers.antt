@@ -1,0 +1,12 @@
+use Rattle.std.proofs.Common.{arith}
+use Rattle.short_vectors.proofs.Loop.{reach_none, reach_again, reach_end}
+use Rattle.sign_steps.proofs.sign.sign_doubles.Goals as goal
+
+pub loop-far-init : goal.loop-far-init
+loop-far-init c = reach_none c.new-vector.ensures (omega arith) (omega arith) (omega arith)
+
+pub returns-then-far-end : goal.returns-then-far-end
+returns-then-far-end c = reach_end c.loop-far.invariant c.sign_double.ensures c.if-far-end.true
+
+pub loop-far-preserved : goal.loop-far-preserved
+loop-far-preserved c = reach_again c.loop-far.invariant c.sign_double.ensures (omega arith) c.step-dn.ensures c.step-dn.ensures c.second-mn.ensures

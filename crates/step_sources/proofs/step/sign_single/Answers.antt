@@ -1,0 +1,5 @@
+use Rattle.step_sources.proofs.Writes.{single_Copying}
+use Rattle.step_sources.proofs.step.sign_single.Goals as goal
+
+pub returns : goal.returns
+returns c = let a = c.args in λ sign. c.copy_of.ensures _ (single_Copying sign a.d.0 a.m.0)

@@ -1,0 +1,13 @@
+use Rattle.sums.proofs.Special.{infs_unlike, infs_like}
+use Rattle.rounding.specs.declared.rounding.Rounding.{Rounding}
+use mathlib.Core.Path.{sym, ◌∙◌}
+use native.Mathlib.Omega.{arith}
+use lib.Ieee.{binary32}
+use Rattle.exceptions.proofs.Values.{handed}
+use Rattle.sums.proofs.sum.infinities32.Goals as goal
+
+pub returns-then-unlike : goal.returns-then-unlike
+returns-then-unlike c = λ (mode : Rounding). handed c.invalid32.ensures (infs_unlike mode binary32 c.args.a c.args.b c.requires.0 c.requires.1 (sym c.unlike.ensures ∙ c.if-unlike.true))
+
+pub returns : goal.returns
+returns c = λ (mode : Rounding). handed c.silent32.ensures (infs_like mode binary32 c.args.a c.args.b (omega arith) c.requires.0 c.requires.1 (sym c.unlike.ensures ∙ c.if-unlike.false))

@@ -1,0 +1,11 @@
+use Rattle.sums.proofs.Numbers.{none_word, some_word}
+use mathlib.Core.Path.{refl}
+use lib.Ieee.{binary64}
+use Rattle.exceptions.proofs.Values.{handed}
+use Rattle.sums.proofs.sum.number_sum64.Goals as goal
+
+pub returns-then-m-eq0 : goal.returns-then-m-eq0
+returns-then-m-eq0 c = handed c.silent64.ensures (none_word c.args.mode binary64 _ _ _ _ _ _ _ _ _ _ _ c.operand64-p.ensures c.operand64-q.ensures c.sum_digits-w.ensures _ c.if-m-eq0.true c.zero_sum64.ensures)
+
+pub returns : goal.returns
+returns c = handed (refl, c.settled.ensures) (some_word c.args.mode binary64 _ _ _ _ _ _ _ _ _ _ _ c.operand64-p.ensures c.operand64-q.ensures c.sum_digits-w.ensures _ _ _ _ c.if-m-eq0.false c.raised64-d.ensures)

@@ -1,0 +1,62 @@
+use mathlib.Core.Path.{refl}
+use mathlib.Core.Bool.{true, false}
+use mathlib.Core.Logic.{inl, inr}
+use lib.Ieee.{binary32}
+use Rattle.machine.specs.Place.{control_of}
+use Rattle.sign_steps.specs.declared.sign.SignOperation.TheVariants.{Copy, Absolute, Negate}
+use Rattle.sign_steps.specs.Sign.{sign_step}
+use Rattle.root_steps.specs.Root.{root_step}
+use Rattle.processing.specs.Data.{named_tree}
+use Rattle.processing.proofs.Arms.{copied, absolute, negated, rooted, compared, compared_zero, widened, from_integer, rounded, truncated}
+use Rattle.processing_marks.proofs.Done as D
+use Rattle.scalars.proofs.Scalar.{one_step, one_step_with, unary_only}
+use Rattle.watched_scalars.proofs.Marks.{sign_Marked, root_Marked, handed_on}
+use Rattle.watched_unary_singles.proofs.watch_single.Goals as goal
+
+pub returns-in-Fcpy : goal.returns-in-Fcpy
+returns-in-Fcpy c = let a = c.args in handed_on (named_tree binary32 a.op a.o) a.op a.s.now a.fpscr _ _ a.marks _ _ c.after.ensures (copied binary32 a.op a.s.now a.fpscr _ a.o c.single_d.ensures.0 c.single_m.ensures.0 c.in-Fcpy.is (one_step binary32 a.op a.s.now a.fpscr _ c.requires.1 (sign_step binary32 Copy) _ _ c.sign_single.ensures)) (sign_Marked binary32 a.op a.fpscr a.marks _ c.requires.1 a.o (rw c.in-Fcpy.is (inl refl)) c.mark_sign.ensures)
+
+pub returns-in-Fabs : goal.returns-in-Fabs
+returns-in-Fabs c = let a = c.args in handed_on (named_tree binary32 a.op a.o) a.op a.s.now a.fpscr _ _ a.marks _ _ c.after-in-Fabs.ensures (absolute binary32 a.op a.s.now a.fpscr _ a.o c.single_d-in-Fabs.ensures.0 c.single_m-in-Fabs.ensures.0 c.in-Fabs.is (one_step binary32 a.op a.s.now a.fpscr _ c.requires.1 (sign_step binary32 Absolute) _ _ c.sign_single-in-Fabs.ensures)) (sign_Marked binary32 a.op a.fpscr a.marks _ c.requires.1 a.o (rw c.in-Fabs.is (inr (inl refl))) c.mark_sign-in-Fabs.ensures)
+
+pub returns-in-Fneg : goal.returns-in-Fneg
+returns-in-Fneg c = let a = c.args in handed_on (named_tree binary32 a.op a.o) a.op a.s.now a.fpscr _ _ a.marks _ _ c.after-in-Fneg.ensures (negated binary32 a.op a.s.now a.fpscr _ a.o c.single_d-in-Fneg.ensures.0 c.single_m-in-Fneg.ensures.0 c.in-Fneg.is (one_step binary32 a.op a.s.now a.fpscr _ c.requires.1 (sign_step binary32 Negate) _ _ c.sign_single-in-Fneg.ensures)) (sign_Marked binary32 a.op a.fpscr a.marks _ c.requires.1 a.o (rw c.in-Fneg.is (inr (inr refl))) c.mark_sign-in-Fneg.ensures)
+
+pub returns-in-Fsqrt : goal.returns-in-Fsqrt
+returns-in-Fsqrt c = let a = c.args in handed_on (named_tree binary32 a.op a.o) a.op a.s.now a.fpscr _ _ a.marks _ _ c.after-in-Fsqrt.ensures (rooted binary32 a.op a.s.now a.fpscr _ a.o c.single_d-in-Fsqrt.ensures.0 c.single_m-in-Fsqrt.ensures.0 c.in-Fsqrt.is _ (one_step_with binary32 a.op a.s.now a.fpscr _ c.requires.1 (root_step binary32 (control_of a.fpscr)) _ _ _ (rw c.control_of.ensures at c.root_single-next.ensures))) (root_Marked binary32 a.op a.fpscr a.marks _ c.requires.1 a.o c.in-Fsqrt.is c.mark_root.ensures)
+
+pub returns-in-Fcmp : goal.returns-in-Fcmp
+returns-in-Fcmp c = let a = c.args in handed_on (named_tree binary32 a.op a.o) a.op a.s.now a.fpscr _ _ a.marks _ _ c.after-in-Fcmp.ensures (compared binary32 a.op a.s.now a.fpscr _ a.o c.single_d-in-Fcmp.ensures.0 c.single_m-in-Fcmp.ensures.0 false c.in-Fcmp.is _ c.compare_single-next.ensures) (D.compared binary32 a.op a.fpscr a.marks _ a.o (rw c.in-Fcmp.is (inl refl)) c.mark_compare.ensures)
+
+pub returns-in-Fcmpe : goal.returns-in-Fcmpe
+returns-in-Fcmpe c = let a = c.args in handed_on (named_tree binary32 a.op a.o) a.op a.s.now a.fpscr _ _ a.marks _ _ c.after-in-Fcmpe.ensures (compared binary32 a.op a.s.now a.fpscr _ a.o c.single_d-in-Fcmpe.ensures.0 c.single_m-in-Fcmpe.ensures.0 true c.in-Fcmpe.is _ c.compare_single-next-in-Fcmpe.ensures) (D.compared binary32 a.op a.fpscr a.marks _ a.o (rw c.in-Fcmpe.is (inr refl)) c.mark_compare-in-Fcmpe.ensures)
+
+pub returns-in-Fcmpz : goal.returns-in-Fcmpz
+returns-in-Fcmpz c = let a = c.args in handed_on (named_tree binary32 a.op a.o) a.op a.s.now a.fpscr _ _ a.marks _ _ c.after-in-Fcmpz.ensures (compared_zero binary32 a.op a.s.now a.fpscr _ a.o c.single_d-in-Fcmpz.ensures.0 false c.in-Fcmpz.is _ c.compare_single_zero-next.ensures) (D.compared_zero binary32 a.op a.fpscr a.marks _ a.o (rw c.in-Fcmpz.is (inl refl)) c.mark_compare_zero.ensures)
+
+pub returns-in-Fcmpez : goal.returns-in-Fcmpez
+returns-in-Fcmpez c = let a = c.args in handed_on (named_tree binary32 a.op a.o) a.op a.s.now a.fpscr _ _ a.marks _ _ c.after-in-Fcmpez.ensures (compared_zero binary32 a.op a.s.now a.fpscr _ a.o c.single_d-in-Fcmpez.ensures.0 true c.in-Fcmpez.is _ c.compare_single_zero-next-in-Fcmpez.ensures) (D.compared_zero binary32 a.op a.fpscr a.marks _ a.o (rw c.in-Fcmpez.is (inr refl)) c.mark_compare_zero-in-Fcmpez.ensures)
+
+pub returns-in-Fcvt : goal.returns-in-Fcvt
+returns-in-Fcvt c = let a = c.args in handed_on (named_tree binary32 a.op a.o) a.op a.s.now a.fpscr _ _ a.marks _ _ c.after-in-Fcvt.ensures (widened a.op a.s.now a.fpscr _ a.o c.double_d.ensures.0 c.single_m-in-Fcvt.ensures.0 c.in-Fcvt.is _ c.widen_single-next.ensures) (D.converted binary32 a.op a.fpscr a.marks _ a.o c.in-Fcvt.is c.mark_convert.ensures)
+
+pub returns-in-Fuito : goal.returns-in-Fuito
+returns-in-Fuito c = let a = c.args in handed_on (named_tree binary32 a.op a.o) a.op a.s.now a.fpscr _ _ a.marks _ _ c.after-in-Fuito.ensures (from_integer binary32 a.op a.s.now a.fpscr _ a.o c.single_d-in-Fuito.ensures.0 c.single_m-in-Fuito.ensures.0 false c.in-Fuito.is _ c.from_integer_single-next.ensures) (D.from_integer binary32 a.op a.fpscr a.marks _ a.o (rw c.in-Fuito.is (inl refl)) c.mark_from_integer.ensures)
+
+pub returns-in-Fsito : goal.returns-in-Fsito
+returns-in-Fsito c = let a = c.args in handed_on (named_tree binary32 a.op a.o) a.op a.s.now a.fpscr _ _ a.marks _ _ c.after-in-Fsito.ensures (from_integer binary32 a.op a.s.now a.fpscr _ a.o c.single_d-in-Fsito.ensures.0 c.single_m-in-Fsito.ensures.0 true c.in-Fsito.is _ c.from_integer_single-next-in-Fsito.ensures) (D.from_integer binary32 a.op a.fpscr a.marks _ a.o (rw c.in-Fsito.is (inr refl)) c.mark_from_integer-in-Fsito.ensures)
+
+pub returns-in-Ftoui : goal.returns-in-Ftoui
+returns-in-Ftoui c = let a = c.args in handed_on (named_tree binary32 a.op a.o) a.op a.s.now a.fpscr _ _ a.marks _ _ c.after-in-Ftoui.ensures (rounded binary32 a.op a.s.now a.fpscr _ a.o c.single_d-in-Ftoui.ensures.0 c.single_m-in-Ftoui.ensures.0 false c.in-Ftoui.is _ c.round_single-next.ensures) (D.rounded binary32 a.op a.fpscr a.marks _ a.o (rw c.in-Ftoui.is (inl refl)) c.mark_rounded.ensures)
+
+pub returns-in-Ftouiz : goal.returns-in-Ftouiz
+returns-in-Ftouiz c = let a = c.args in handed_on (named_tree binary32 a.op a.o) a.op a.s.now a.fpscr _ _ a.marks _ _ c.after-in-Ftouiz.ensures (truncated binary32 a.op a.s.now a.fpscr _ a.o c.single_d-in-Ftouiz.ensures.0 c.single_m-in-Ftouiz.ensures.0 false c.in-Ftouiz.is _ c.truncate_single-next.ensures) (D.truncated binary32 a.op a.fpscr a.marks _ a.o (rw c.in-Ftouiz.is (inl refl)) c.mark_truncated.ensures)
+
+pub returns-in-Ftosi : goal.returns-in-Ftosi
+returns-in-Ftosi c = let a = c.args in handed_on (named_tree binary32 a.op a.o) a.op a.s.now a.fpscr _ _ a.marks _ _ c.after-in-Ftosi.ensures (rounded binary32 a.op a.s.now a.fpscr _ a.o c.single_d-in-Ftosi.ensures.0 c.single_m-in-Ftosi.ensures.0 true c.in-Ftosi.is _ c.round_single-next-in-Ftosi.ensures) (D.rounded binary32 a.op a.fpscr a.marks _ a.o (rw c.in-Ftosi.is (inr refl)) c.mark_rounded-in-Ftosi.ensures)
+
+pub returns-in-Ftosiz : goal.returns-in-Ftosiz
+returns-in-Ftosiz c = let a = c.args in handed_on (named_tree binary32 a.op a.o) a.op a.s.now a.fpscr _ _ a.marks _ _ c.after-in-Ftosiz.ensures (truncated binary32 a.op a.s.now a.fpscr _ a.o c.single_d-in-Ftosiz.ensures.0 c.single_m-in-Ftosiz.ensures.0 true c.in-Ftosiz.is _ c.truncate_single-next-in-Ftosiz.ensures) (D.truncated binary32 a.op a.fpscr a.marks _ a.o (rw c.in-Ftosiz.is (inr refl)) c.mark_truncated-in-Ftosiz.ensures)
+
+pub returns-in_default : goal.returns-in_default
+returns-in_default c = unary_only c.args.o c.in_default.in_default-own.keys16 c.requires.0
