@@ -12,11 +12,20 @@ use machine::Machine;
 use sides::{Side, at, place, watched};
 use std::io;
 
+fn text(rt: &impl Print, b: &str) -> io::Result<()> {
+    print!(rt; "{b}")
+}
+
+fn number(rt: &impl Print, x: u64) -> io::Result<()> {
+    print!(rt; "{x}")
+}
+
 // The places that a map calls unknown.
 fn unknown(rt: &impl Print, k: u64) -> io::Result<()> {
     for p in 0..64 {
         if !at(k, p) {
-            print!(rt; " {p}")?;
+            text(rt, " ")?;
+            number(rt, p as u64)?;
         }
     }
     Ok(())
@@ -34,7 +43,7 @@ fn example(rt: &impl Print) -> io::Result<()> {
     let count = a.count;
     print!(rt; "document 01's watch: stop {kind} value {value}, count {count}, unknown")?;
     unknown(rt, a.known)?;
-    println!(rt)
+    text(rt, "\n")
 }
 
 // How many words and maps there were of a sort, and how many of them differ.
@@ -54,13 +63,13 @@ fn disabled(rt: &impl Print) -> io::Result<()> {
 }
 
 fn named(rt: &impl Print, name: &str, x: u64) -> io::Result<()> {
-    print!(rt; "{name}{x}")
+    text(rt, name)?;
+    number(rt, x)
 }
 
 fn random(rt: &impl Print) -> io::Result<()> {
     let t = machines::lists();
-    let lists = t.lists;
-    print!(rt; "{lists}")?;
+    number(rt, t.lists)?;
     named(rt, " random lists, words counted ", t.counted)?;
     named(rt, ", finished ", t.finished)?;
     named(rt, ", foreign ", t.foreign)?;
@@ -68,13 +77,12 @@ fn random(rt: &impl Print) -> io::Result<()> {
     named(rt, ", branched ", t.branched)?;
     named(rt, ", hanging ", t.hangs)?;
     named(rt, ", differ ", t.differ)?;
-    println!(rt)
+    text(rt, "\n")
 }
 
 fn raised(rt: &impl Print) -> io::Result<()> {
     let t = more::lists();
-    let lists = t.lists;
-    print!(rt; "{lists}")?;
+    number(rt, t.lists)?;
     named(
         rt,
         " random lists with more known, counting more ",
@@ -82,7 +90,7 @@ fn raised(rt: &impl Print) -> io::Result<()> {
     )?;
     named(rt, ", knowing more ", t.wider)?;
     named(rt, ", showing less ", t.less)?;
-    println!(rt)
+    text(rt, "\n")
 }
 
 fn main(rt: HostRuntime) -> io::Result<()> {

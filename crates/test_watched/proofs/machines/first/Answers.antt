@@ -2,6 +2,5 @@ use mathlib.Core.Path.{sym}
 use lib.Seq.{length-take-le}
 use Rattle.test_watched.proofs.machines.first.Goals as goal
 
--- src/machines.rt:286:9
 pub slice_bounds-result-end : goal.slice_bounds-result-end
 slice_bounds-result-end c = sym (length-take-le _ _ c.if-n-list.true)
