@@ -1,8 +1,6 @@
-use Prim.Native.Nat.{◌-◌}
+use Rattle.std.proofs.Common.{◌-◌}
 use Rattle.fpurun.proofs.outcome.changed.Given as goal
 
-abbrev pub invariant-loop-p : goal.invariant-loop-p
-invariant-loop-p l = Unit {0}
-
+-- how many places are left
 abbrev pub decreases-loop-p : goal.decreases-loop-p
-decreases-loop-p l = l.v - p
+decreases-loop-p g l = l.end - l.p
