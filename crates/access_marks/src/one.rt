@@ -18,7 +18,7 @@ use known_places::ones_after;
 use machine::address::plus;
 use memory::words::move_word;
 use place_marks::window::{mark_word, word_known};
-use register_marks::register::{mark_single, single_known};
+use register_marks::register::MarkedRegister;
 use registers::registers::Single;
 
 pub(crate) fn watched_one(
@@ -88,9 +88,9 @@ fn mark_one(
 {
     if bit(op, 20) {
         let b = word_known(&window_marks[..], base, address);
-        return mark_single(marks, x, b);
+        return x.mark(marks, b);
     }
-    let b = single_known(marks, x);
+    let b = x.known(marks);
     *ones = ones_after(&window_marks[..], *ones, base, address, b);
     mark_word(window_marks, base, address, b);
     marks

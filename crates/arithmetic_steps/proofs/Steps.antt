@@ -9,7 +9,7 @@ use lib.ListN.{set}
 use lib.Ieee.{Format, binary32, binary64}
 use Rattle.machine.specs.declared.Machine.{Machine}
 use Rattle.machine.specs.Machine.{with_s, with_fpscr, new_machine}
-use Rattle.registers.specs.Registers.{single_index, low_index, high_index, double_of}
+use Rattle.registers.specs.Registers.{single_index, low_index, high_index, double_of, value_in, stored_in}
 use Rattle.machine.specs.Place.{State, state, get, put, s_word, low_word, high_word, exceptions, control_of, exceptions_of}
 use Rattle.meaning.specs.Step.{step, fst, snd, rest}
 use Rattle.numbers.specs.declared.arithmetic.Arithmetic.{Arithmetic}
@@ -84,6 +84,20 @@ module _ (f : Format) (c : ℕ) (kind : Arithmetic) (d n m : ℕ) (q : Machine) 
       sym (keeps (sym (raised_is fpscr e (exceptions_lt f c kind _ _ _)) ∙ nothing_new fpscr e set_already k.raises))
       ∙ ap (λ (x : ℕ). put (store f st d x) exceptions (bit_or (get st exceptions) e)) k.word
       ∙ sym (arithmetic_step_lem f c kind d n m st)
+
+-- ---- the same of lent singles
+
+pub quick_steps : (f : Format) (c : ℕ) (kind : Arithmetic) (d n m fpscr : ℕ) (s : List ℕ) (bits : ℕ) → fpscr / 2 ^ 4 % 2 ≡ 1
+    → IsQuick f c kind (value_in f s n) (value_in f s m) (value_in f s d) bits
+    → SteppedWith (arithmetic_step f c kind d n m) fpscr s fpscr (stored_in f s d bits)
+quick_steps binary32 c kind d n m fpscr s bits set_already k q v = quick_step binary32 c kind d n m q fpscr s v bits set_already k
+quick_steps binary64 c kind d n m fpscr s bits set_already k q v = quick_step binary64 c kind d n m q fpscr s v bits set_already k
+
+pub rounded_steps : (f : Format) (c : ℕ) (kind : Arithmetic) (d n m fpscr : ℕ) (s : List ℕ)
+    → SteppedWith (arithmetic_step f c kind d n m) fpscr s (raised_in fpscr (exceptions_by f c kind (value_in f s n) (value_in f s m) (value_in f s d)))
+    (stored_in f s d (arithmetic_by f c kind (value_in f s n) (value_in f s m) (value_in f s d)))
+rounded_steps binary32 c kind d n m fpscr s q v = sym (arithmetic_step_lem binary32 c kind d n m (state (with_s (with_fpscr q fpscr) s) v))
+rounded_steps binary64 c kind d n m fpscr s q v = sym (arithmetic_step_lem binary64 c kind d n m (state (with_s (with_fpscr q fpscr) s) v))
 
 -- what is raised leaves FPSCR 27:5
 pub same_control : (f : Format) (c : ℕ) (kind : Arithmetic) (d n m fpscr : ℕ) (s : List ℕ) (fpscr' : ℕ) (s' : List ℕ) → SteppedWith (arithmetic_step f c kind d n m) fpscr s fpscr' s'

@@ -6,7 +6,8 @@ use Rattle.numbers.specs.Arithmetic.{accumulates}
 use Rattle.directed.specs.Directed.{arithmetic_by}
 use Rattle.directed.specs.Exceptions.{exceptions_by}
 use Rattle.meaning.specs.Step.{Step, fst, rest, snd}
-use Rattle.short_vectors.specs.Vector.{bank_of, stride_of, step_of, second_of}
+use Rattle.registers.specs.Registers.{bank_of}
+use Rattle.short_vectors.specs.Vector.{stride_of, step_of, second_of}
 use Rattle.short_vectors.specs.Register.{words_of, values_of, written, raising}
 
 -- old d is read by an accumulate alone

@@ -1,4 +1,4 @@
-// Arithmetic over lent singles as definitions, and what both precisions share.
+// Arithmetic over lent singles, and its iterations over short vectors.
 #![tactic(auto)]
 
 pub mod arithmetic;

@@ -1,13 +1,13 @@
 // The line for a place that has no chain.
 ghost use Rattle.std.specs.Prelude.{◌≡◌};
-ghost use Rattle.text.specs.Text.{text_of, clip};
+ghost use Rattle.text.specs.Text.{clip};
 ghost use Rattle.chain_lines.specs.Place.{known_text, beyond_text};
 
-use text::text::{Text, low};
+use text::text::Text;
 
 // A place that is known.
 pub fn known(p: u32) -> Text
-    ensures { text_of result ≡ clip (known_text p) }
+    ensures { result ≡ clip (known_text p) }
 {
     Text::new()
         .add_place(p)
@@ -18,12 +18,12 @@ pub fn known(p: u32) -> Text
 
 // A place beyond the map, which has so many.
 pub fn beyond(p: u32, places: usize) -> Text
-    ensures { text_of result ≡ clip (beyond_text p places) }
+    ensures { result ≡ clip (beyond_text p places) }
 {
     Text::new()
         .add(b"place ")
         .add_decimal(p)
         .add(b" is beyond the map, which has ")
-        .add_decimal(low(places))
+        .add_count(places)
         .add(b" places")
 }

@@ -1,2 +1,3 @@
 -- Laws of the crate's proofs.
 pub mod Flags
+pub mod Steps

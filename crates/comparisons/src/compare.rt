@@ -1,16 +1,46 @@
 // A comparison's flags, FPSCR 31:28 as a number, and what it raises.
 ghost use Rattle.std.specs.Prelude.{◌≡◌, cond};
-ghost use Rattle.std.specs.Float.{binary32, binary64};
+ghost use Rattle.std.specs.Float.Ieee.{eq, lt};
 ghost use Rattle.exceptions.specs.Exceptions.{invalid, nan_exceptions};
 ghost use Rattle.comparisons.specs.Compare.{compare_flags, compare_exceptions};
 
-use exceptions::exceptions::{INVALID, nan_exceptions32, nan_exceptions64};
-use floats::word::{float32, float64};
+use exceptions::exceptions::{INVALID, nan_exceptions};
+use floats::precision::Precision;
+use floats::word::float;
 
-#[derive(Clone, Copy)]
+#[derive(Clone, Copy, Debug, PartialEq, Eq)]
 pub struct Compared {
     pub flags: u32,
     pub exceptions: u32,
+}
+
+// A width whose floats the processor compares. A NaN is neither equal to a float nor less.
+pub trait Comparable: Precision {
+    fn equal(x: Self::Float, y: Self::Float) -> bool
+        ensures { result ≡ eq (Self.value x) (Self.value y) };
+
+    fn less(x: Self::Float, y: Self::Float) -> bool
+        ensures { result ≡ lt (Self.value x) (Self.value y) };
+}
+
+impl Comparable for u32 {
+    fn equal(x: f32, y: f32) -> bool {
+        x == y
+    }
+
+    fn less(x: f32, y: f32) -> bool {
+        x < y
+    }
+}
+
+impl Comparable for u64 {
+    fn equal(u: f64, v: f64) -> bool {
+        u == v
+    }
+
+    fn less(u: f64, v: f64) -> bool {
+        u < v
+    }
 }
 
 // Of numbers: nothing is raised.
@@ -24,8 +54,8 @@ fn ordered(flags: u32) -> Compared
 }
 
 // Of words of which one is a NaN.
-fn unordered32(any: bool, a: u32, b: u32) -> Compared
-    ensures { (result.flags ≡ 0b0011) × (result.exceptions ≡ cond any invalid (nan_exceptions binary32 a b)) }
+fn unordered<W: Precision>(any: bool, a: W, b: W) -> Compared
+    ensures { (result.flags ≡ 0b0011) × (result.exceptions ≡ cond any invalid (nan_exceptions W.format (W.number a) (W.number b))) }
 {
     if any {
         return Compared {
@@ -35,62 +65,26 @@ fn unordered32(any: bool, a: u32, b: u32) -> Compared
     }
     Compared {
         flags: 0b0011,
-        exceptions: nan_exceptions32(a, b),
-    }
-}
-
-fn unordered64(any: bool, a: u64, b: u64) -> Compared
-    ensures { (result.flags ≡ 0b0011) × (result.exceptions ≡ cond any invalid (nan_exceptions binary64 a b)) }
-{
-    if any {
-        return Compared {
-            flags: 0b0011,
-            exceptions: INVALID,
-        };
-    }
-    Compared {
-        flags: 0b0011,
-        exceptions: nan_exceptions64(a, b),
+        exceptions: nan_exceptions(a, b),
     }
 }
 
 // For FCMPE any NaN is invalid.
-pub fn compare32(any: bool, a: u32, b: u32) -> Compared
-    ensures { (result.flags ≡ compare_flags binary32 a b) × (result.exceptions ≡ compare_exceptions binary32 any a b) }
+pub fn compare<W: Comparable>(any: bool, a: W, b: W) -> Compared
+    ensures { (result.flags ≡ compare_flags W.format (W.number a) (W.number b)) × (result.exceptions ≡ compare_exceptions W.format any (W.number a) (W.number b)) }
 {
-    let x = float32(a);
-    let y = float32(b);
-    if x != x {
-        return unordered32(any, a, b);
+    let x = float(a);
+    let y = float(b);
+    if W::differs(x) {
+        return unordered(any, a, b);
     }
-    if y != y {
-        return unordered32(any, a, b);
+    if W::differs(y) {
+        return unordered(any, a, b);
     }
-    if x == y {
+    if W::equal(x, y) {
         return ordered(0b0110);
     }
-    if x < y {
-        ordered(0b1000)
-    } else {
-        ordered(0b0010)
-    }
-}
-
-pub fn compare64(any: bool, a: u64, b: u64) -> Compared
-    ensures { (result.flags ≡ compare_flags binary64 a b) × (result.exceptions ≡ compare_exceptions binary64 any a b) }
-{
-    let u = float64(a);
-    let v = float64(b);
-    if u != u {
-        return unordered64(any, a, b);
-    }
-    if v != v {
-        return unordered64(any, a, b);
-    }
-    if u == v {
-        return ordered(0b0110);
-    }
-    if u < v {
+    if W::less(x, y) {
         ordered(0b1000)
     } else {
         ordered(0b0010)

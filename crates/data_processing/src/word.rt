@@ -6,9 +6,8 @@ ghost use Rattle.processing.specs.Data.{data_tree, Handled};
 use bits::field::bits;
 use decode_table::table::{operation, operations};
 use decoding::operation::Operation;
-use double_processing::double::process_double;
 use processing::Processed;
-use single_processing::single::process_single;
+use registers::registers::{Double, Single};
 
 // The word on the singles, with FPSCR by value, and its operation. A run decodes by the table that it made once.
 pub fn process(s: &mut [u32; 32], fpscr: u32, o: Operation, op: u32) -> Processed
@@ -17,10 +16,10 @@ pub fn process(s: &mut [u32; 32], fpscr: u32, o: Operation, op: u32) -> Processe
 {
     let coproc = bits(op, 8, 11);
     if coproc == 10 {
-        return process_single(s, fpscr, op, o);
+        return processing::operation::process::<Single>(s, fpscr, op, o);
     }
     if coproc == 11 {
-        return process_double(s, fpscr, op, o);
+        return processing::operation::process::<Double>(s, fpscr, op, o);
     }
     Processed::Undefined
 }

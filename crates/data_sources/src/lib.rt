@@ -11,14 +11,14 @@ ghost use Rattle.short_vectors.specs.Vector.{precision};
 ghost use Rattle.links.specs.Walked.{Walked};
 
 use bits::field::bits;
-use decoding::operation::numbered;
+use decoding::operation::Operation;
 use links::{Back, link};
 use machine::place::control_of;
 use once::once_source;
 use stepping_sources::stepping_back;
 
-// From place q, unknown after the word of this index, with FPSCR and the marks as they were before it. n is the number of the word's operation, and k pairs
-// are in the list.
+// From place q, unknown after the word of this index, with FPSCR and the marks as they were before it. n is the number of the word's operation, by which
+// `stepping_act` goes, and k pairs are in the list.
 pub fn data_back(
     marks: u64,
     fpscr: u32,
@@ -63,6 +63,6 @@ fn operation_back(
     if n < 14 {
         return stepping_back(marks, control_of(fpscr), double, n, op, q, index, pairs, k);
     }
-    let s = once_source(marks, double, numbered(n), op, q);
+    let s = once_source(marks, double, Operation::from(n), op, q);
     link(pairs, k, index, q, s)
 }

@@ -4,7 +4,7 @@ ghost use Rattle.decoding.specs.Operation.{operation_of, number_of};
 ghost use Rattle.decoding.specs.Table.{index_of, operation_table};
 
 use bits::field::bits;
-use decoding::operation::{Operation, numbered};
+use decoding::operation::Operation;
 
 // Four entries for each value of bits 23:20 and 19:16, in the order of bits 7 and 6. 0 is Undefined.
 const OPERATIONS: [u8; 1024] = [
@@ -300,7 +300,7 @@ pub fn operation(table: &[u8; 1024], op: u32) -> Operation
     requires { table.now ≡ operation_table }
     ensures { result ≡ operation_of op }
 {
-    numbered(number(table, op))
+    Operation::from(number(table, op))
 }
 
 // The same for a single word.

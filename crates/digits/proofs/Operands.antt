@@ -2,7 +2,7 @@
 use mathlib.Core.Path.{◌≡◌, refl, sym, ap, ◌∙◌, subst}
 use mathlib.Core.Bool.{Bool, true, false, ◌&&◌}
 use Prim.Native.Nat.{ℕ, ◌+◌, ◌-◌, ◌*◌, ◌/◌, ◌%◌, ◌^◌, ◌≤◌, ◌<◌}
-use native.Mathlib.Nat.{mul_assoc, lt_of_lt_of_le, mul-mod_left, mul-lt-mul_of_pos_right, not-le_of_lt, lt_of_not-le, le_of_suc-le-suc, mul-le-mul_left}
+use native.Mathlib.Nat.{mul_assoc, mod-lt, mod-one, mod-eq_of_lt, lt_of_lt_of_le, mul-mod_left, mul-lt-mul_of_pos_right, not-le_of_lt, lt_of_not-le, le_of_suc-le-suc, mul-le-mul_left}
 use native.Mathlib.Decide.{dec_lt}
 use native.Mathlib.Omega.{arith}
 use borrow.Author.Tests.{ltb-true, lt-ltb}
@@ -11,14 +11,11 @@ use lib.Pow.{pow-add, pow_pos, pow_mono}
 use lib.Ieee.{Float, Format, binary32, binary64, prec, low, hid, ones, top, of_bits}
 use lib.Ieee.Exact.{HasValue}
 use Rattle.rounding.specs.Lift.{Lifted}
-use Rattle.digits.specs.Digits.{IsNumber, IsOperand}
+use Rattle.digits.specs.Digits.{rise, IsNumber, IsOperand}
 use Rattle.floats.proofs.Units.{rescale, slide, reads_low, reads_normal}
 use Rattle.rounding.proofs.Lifting.{moved_is}
 
--- how far up a normal word's digits go, and how far its exponent's field and a subnormal's exponent are from the operand's
-abbrev pub rise : Format → ℕ
-rise f = 53 - prec f
-
+-- how far a normal word's exponent's field and a subnormal's exponent are from the operand's
 abbrev pub base : Format → ℕ
 base f = 1125 - low f - rise f
 
@@ -115,3 +112,13 @@ low_zeros t up h p = ap (λ (z : ℕ). z % 2 ^ 29) (moved_is t up p ∙ ap (λ (
 
 pub normal_zeros : (t : ℕ) → (0x80_0000 + t) * 0x2000_0000 % 2 ^ 29 ≡ 0
 normal_zeros t = mul-mod_left (0x80_0000 + t) (2 ^ 29)
+
+-- the digits of a subnormal stand as far up as those of a normal word
+pub low_zeros_lem : (f : Format) (n h up : ℕ) → h ≡ hid f → Lifted (n % h) up → n % h * 2 ^ up % 2 ^ 64 % 2 ^ rise f ≡ 0
+low_zeros_lem binary32 n h up e p = low_zeros (n % h) up (rw e (mod-lt n (pow_pos 23))) p
+low_zeros_lem binary64 n h up e p = mod-one (n % h * 2 ^ up % 2 ^ 64)
+
+-- and a normal word's are moved up with nothing lost
+pub normal_digits : (f : Format) (t : ℕ) → t < hid f → (hid f + t) * 2 ^ rise f % 2 ^ 64 ≡ (hid f + t) * 2 ^ rise f
+normal_digits binary32 t h = mod-eq_of_lt (omega arith)
+normal_digits binary64 t h = mod-eq_of_lt (omega arith)

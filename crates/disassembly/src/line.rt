@@ -1,7 +1,7 @@
 // A word at an address, as the service tool lists it.
 ghost use Rattle.std.specs.Prelude.{◌≡◌, ◌++◌};
 ghost use Rattle.decoding.specs.Table.{operation_table};
-ghost use Rattle.text.specs.Text.{text_of, clip};
+ghost use Rattle.text.specs.Text.{clip};
 ghost use Rattle.disassembly.specs.Line.{word_text, address_text, line_of};
 
 use access_mnemonics::load_store::load_store;
@@ -15,7 +15,7 @@ use word_class::foreign::foreign;
 // What a word is, by its class. The decode table is lent.
 pub fn word(table: &[u8; 1024], t: Text, op: u32) -> Text
     requires { table.now ≡ operation_table }
-    ensures { text_of result ≡ clip (text_of t ++ word_text op) }
+    ensures { result ≡ clip (t ++ word_text op) }
 {
     if foreign(op) {
         return t.add(b"foreign");
@@ -32,7 +32,7 @@ pub fn word(table: &[u8; 1024], t: Text, op: u32) -> Text
 
 // An address, if it is known.
 fn address_or_unknown(known: bool, address: u32) -> Text
-    ensures { text_of result ≡ clip (address_text known address) }
+    ensures { result ≡ clip (address_text known address) }
 {
     if known {
         return Text::new().add_hex(address);
@@ -43,7 +43,7 @@ fn address_or_unknown(known: bool, address: u32) -> Text
 // A line of a list: the word's address, the word, and what it is.
 pub fn line(table: &[u8; 1024], known: bool, address: u32, op: u32) -> Text
     requires { table.now ≡ operation_table }
-    ensures { text_of result ≡ clip (line_of known address op) }
+    ensures { result ≡ clip (line_of known address op) }
 {
     let start = address_or_unknown(known, address)
         .add(b": ")

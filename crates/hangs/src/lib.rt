@@ -6,6 +6,7 @@ ghost use Rattle.std.specs.Prelude.{◌≡◌, cond};
 ghost use Rattle.meaning.specs.Hang.{clear, at};
 ghost use Rattle.hangs.specs.Hang.{hang_is};
 
+// No `Option<usize>`: the definition `hang_is`, which the clauses of the hangs name, is over these cases.
 #[derive(Clone, Copy)]
 pub enum Hang {
     Clear,

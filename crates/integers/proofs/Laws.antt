@@ -35,7 +35,9 @@ from_integer_exact mode signed w h = go (signed && leb (2 ^ 31) w)
     go true = double_any mode true (2 ^ 32 - w) (omega arith)
     go false = double_any mode false w (omega arith)
 
--- ---- floats as integers
+-- a format's word that is the mode's is a double's of every mode
+pub every_mode : (f : Format) (by mode : Rounding) (signed : Bool) (w bits : ℕ) → w < 2 ^ 32 → bits ≡ from_integer f by signed w → f ≡ binary64 → bits ≡ from_integer binary64 mode signed w
+every_mode f by mode signed w bits h p e = p ∙ ap (λ (g : Format). from_integer g by signed w) e ∙ sym (from_integer_exact by signed w h) ∙ from_integer_exact mode signed w h
 
 -- ---- what integers as floats raise
 

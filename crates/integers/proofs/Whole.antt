@@ -3,12 +3,12 @@ use mathlib.Core.Path.{◌≡◌, refl, sym, ap, ◌∙◌, subst}
 use mathlib.Core.Logic.{inl, inr}
 use mathlib.Core.Bool.{Bool, true, false, ◌&&◌, cond, and-false}
 use Prim.Native.Nat.{ℕ, ◌+◌, ◌-◌, ◌*◌, ◌/◌, ◌%◌, ◌^◌, ◌≤◌, ◌<◌, min}
-use native.Mathlib.Nat.{le_trans, le_of_eq, le_of_lt, lt_of_lt_of_le, one-mul, mul-one, min-eq_left, mul_assoc, mul-le-mul, le-div_iff_mul-le, div-one, mod-one, eq-zero-or-pos}
+use native.Mathlib.Nat.{le_trans, le_of_eq, le_of_lt, one-mul, min-eq_left, mul_assoc, mul-le-mul, le-div_iff_mul-le, div-one, mod-one, eq-zero-or-pos}
 use native.Mathlib.Omega.{arith}
 use lib.Count.{count_leading_zeros}
 use lib.Dec.{leb, ltb, eqb, lit≤, lit<}
 use lib.Pow.{pow-add, pow_pos, pow_mono}
-use lib.Ieee.{Float, nan, inf, fin, Format, binary32, binary64, up, down, hid, ones, top, of_bits, to_bits, nan_bits}
+use lib.Ieee.{Float, nan, inf, fin, Format, binary32, binary64, prec, low, up, down, hid, ones, top, of_bits, to_bits, nan_bits}
 use lib.Ieee.Fits.{down_pos, fits_widens}
 use lib.Ieee.Bits.{of_bits-to_bits, of_bits-fits}
 use lib.Ieee.Exact.{HasValue}
@@ -35,76 +35,66 @@ use Rattle.rounding.proofs.Lifting.{moved_is, lifted}
 pub whole_zero : (mode : Rounding) (f : Format) (s : Bool) (n bits : ℕ) (x o t : Bool) → n ≡ 0 → IsSettled mode f s (0 * 2 ^ 0) (2 ^ 2209) bits x o t → IsSettled mode f s n 1 bits x o t
 whole_zero mode f s n bits x o t e p = settled_same mode f s (0 * 2 ^ 0) (2 ^ 2209) n 1 bits x o t (pow_pos 2209) (lit< tt) (sym (ap (λ (z : ℕ). z * 2 ^ 2209) e)) p
 
-pub whole_some : (mode : Rounding) (f : Format) (s : Bool) (n r bits : ℕ) (x o t : Bool) → Lifted n r
-    → IsSettled mode f s (n * 2 ^ r % 2 ^ 64 * 512 * 2 ^ (2200 - r)) (2 ^ 2209) bits x o t → IsSettled mode f s n 1 bits x o t
-whole_some mode f s n r bits x o t l p =
-    settled_same mode f s (n * 2 ^ r % 2 ^ 64 * 512 * 2 ^ (2200 - r)) (2 ^ 2209) n 1 bits x o t (pow_pos 2209) (lit< tt)
-    (mul-one (n * 2 ^ r % 2 ^ 64 * 512 * 2 ^ (2200 - r))
-    ∙ ap (λ (z : ℕ). z * 512 * 2 ^ (2200 - r)) (moved_is n r l)
-    ∙ ap (λ (z : ℕ). z * 2 ^ (2200 - r)) (mul_assoc n (2 ^ r) (2 ^ 9) ∙ ap (λ (z : ℕ). n * z) (sym (pow-add 2 r 9)))
-    ∙ mul_assoc n (2 ^ (r + 9)) (2 ^ (2200 - r))
-    ∙ ap (λ (z : ℕ). n * z) (sym (pow-add 2 (r + 9) (2200 - r)) ∙ ap (λ (z : ℕ). 2 ^ z) (exps r l.most))) p
-  where
-    exps : (r : ℕ) → r ≤ 52 → r + 9 + (2200 - r) ≡ 2209
-    exps r h = omega arith
+-- of the 53 digits some are dropped, as a double none
+module _ (mode : Rounding) (f : Format) (s : Bool) (n r kept : ℕ) (x : Bool) (l : Lifted n r) (p : IsCut mode s (n * 2 ^ r % 2 ^ 64) (2 ^ (53 - prec f)) kept x) where
+  abbrev k : ℕ
+  k = low f + 53 - prec f - r
 
--- the 53 digits at the top of 62
-pub whole_ready : (n r : ℕ) → Lifted n r → (n * 2 ^ r % 2 ^ 64 * 512 < 2 ^ 62) × (2 ^ 61 ≤ n * 2 ^ r % 2 ^ 64 * 512)
-whole_ready n r l = (lower _ (subst (λ (z : ℕ). z < 2 ^ 53) (sym (moved_is n r l)) l.below), upper _ (subst (λ (z : ℕ). 2 ^ 52 ≤ z) (sym (moved_is n r l)) l.least))
-  where
-    lower : (z : ℕ) → z < 2 ^ 53 → z * 512 < 2 ^ 62
-    lower z h = omega arith
+  abbrev unit : ℕ
+  unit = 2 ^ (53 - prec f)
 
-    upper : (z : ℕ) → 2 ^ 52 ≤ z → 2 ^ 61 ≤ z * 512
-    upper z h = omega arith
-
--- as a single: of the 53 digits 29 are dropped
-module _ (mode : Rounding) (s : Bool) (n r kept : ℕ) (x : Bool) (l : Lifted n r) (p : IsCut mode s (n * 2 ^ r % 2 ^ 64) (2 ^ 29) kept x) where
-  digits_few : (n * 2 ^ r / 2 ^ 29 < 2 ^ 24) × (2 ^ 23 ≤ n * 2 ^ r / 2 ^ 29)
-  digits_few = go (n * 2 ^ r) l.below l.least
+  digits_few : (n * 2 ^ r / unit < 2 ^ prec f) × (hid f ≤ n * 2 ^ r / unit)
+  digits_few = go f (n * 2 ^ r) l.below l.least
     where
-      go : (z : ℕ) → z < 2 ^ 53 → 2 ^ 52 ≤ z → (z / 2 ^ 29 < 2 ^ 24) × (2 ^ 23 ≤ z / 2 ^ 29)
-      go z h k = (omega arith, omega arith)
+      go : (f : Format) (z : ℕ) → z < 2 ^ 53 → 2 ^ 52 ≤ z → (z / 2 ^ (53 - prec f) < 2 ^ prec f) × (hid f ≤ z / 2 ^ (53 - prec f))
+      go binary32 z h k = (omega arith, omega arith)
+      go binary64 z h k = (omega arith, omega arith)
 
-  kept_is : kept ≡ cut_to mode s (n * 2 ^ r) (2 ^ 29)
-  kept_is = p.kept_is ∙ ap (λ (z : ℕ). cut_to mode s z (2 ^ 29)) (moved_is n r l)
+  kept_is : kept ≡ cut_to mode s (n * 2 ^ r) unit
+  kept_is = p.kept_is ∙ ap (λ (z : ℕ). cut_to mode s z unit) (moved_is n r l)
 
-  pub kept_few : kept ≤ 2 ^ 24
-  kept_few = le_trans (le_of_eq kept_is) (le_trans (cut_le mode s (n * 2 ^ r) (2 ^ 29)) digits_few.0)
+  pub kept_few : kept ≤ 2 ^ prec f
+  kept_few = le_trans (le_of_eq kept_is) (le_trans (cut_le mode s (n * 2 ^ r) unit) digits_few.0)
 
-  small : (178 - r) * 0x80_0000 + kept < 0x7F7F_FFFF
-  small = go (178 - r) kept (most r) kept_few
+  small : k * hid f + kept < ones f * hid f - 1
+  small = go f r kept kept_few
     where
-      most : (r : ℕ) → 178 - r ≤ 178
-      most r = omega arith
+      go : (f : Format) (r c : ℕ) → c ≤ 2 ^ prec f → (low f + 53 - prec f - r) * hid f + c < ones f * hid f - 1
+      go binary32 r c g = omega arith
+      go binary64 r c g = omega arith
 
-      go : (k c : ℕ) → k ≤ 178 → c ≤ 2 ^ 24 → k * 0x80_0000 + c < 0x7F7F_FFFF
-      go k c h g = omega arith
-
-  scale : n * 2 ^ 149 * 2 ^ 29 ≡ n * 2 ^ r * (1 * 2 ^ (178 - r))
-  scale = slide n 149 29 r (178 - r) (exps r l.most) ∙ ap (λ (z : ℕ). n * 2 ^ r * z) (sym (one-mul (2 ^ (178 - r))))
+  scale : n * 2 ^ low f * unit ≡ n * 2 ^ r * (1 * 2 ^ k)
+  scale = slide n (low f) (53 - prec f) r k (exps f r l.most) ∙ ap (λ (z : ℕ). n * 2 ^ r * z) (sym (one-mul (2 ^ k)))
     where
-      exps : (r : ℕ) → r ≤ 52 → 149 + 29 ≡ r + (178 - r)
-      exps r h = omega arith
+      exps : (f : Format) (r : ℕ) → r ≤ 52 → low f + (53 - prec f) ≡ r + (low f + 53 - prec f - r)
+      exps binary32 r h = omega arith
+      exps binary64 r h = omega arith
 
-  pub whole_cut : (sign : ℕ) → sign ≡ cond s 0x8000_0000 0 → IsSettled mode binary32 s n 1 (sign + ((178 - r) * 0x80_0000 + kept)) x false false
+  pub whole_cut : (sign : ℕ) → sign ≡ cond s (top f) 0 → IsSettled mode f s n 1 (sign + (k * hid f + kept)) x false false
   whole_cut sign e =
-      let least = le_trans (le_of_lt small) (ceiling_ge mode binary32 s) in
+      let least = le_trans (le_of_lt small) (ceiling_ge mode f s) in
       record {
         bits_are =
-            ap (λ (z : ℕ). z + ((178 - r) * 0x80_0000 + kept)) e
-            ∙ ap (λ (z : ℕ). cond s 0x8000_0000 0 + z) (sym (min-eq_left least) ∙ ap (λ (z : ℕ). min ((178 - r) * 0x80_0000 + z) (ceiling mode binary32 s)) kept_is)
-            ∙ sym (rounded_bits mode binary32 s n 1 (178 - r) (n * 2 ^ r) (2 ^ 29) (lit< tt) (pow_pos 29) scale digits_few.0 (inr digits_few.1));
-        exact_is = p.exact_is ∙ ap (λ (z : ℕ). eqb (z % 2 ^ 29) 0) (moved_is n r l) ∙ sym (exact_is mode binary32 s n 1 (178 - r) (n * 2 ^ r) (2 ^ 29) (lit< tt) (pow_pos 29) scale digits_few.0 (inr digits_few.1));
+            ap (λ (z : ℕ). z + (k * hid f + kept)) e
+            ∙ ap (λ (z : ℕ). cond s (top f) 0 + z) (sym (min-eq_left least) ∙ ap (λ (z : ℕ). min (k * hid f + z) (ceiling mode f s)) kept_is)
+            ∙ sym (rounded_bits mode f s n 1 k (n * 2 ^ r) unit (lit< tt) (pow_pos (53 - prec f)) scale digits_few.0 (inr digits_few.1));
+        exact_is = p.exact_is ∙ ap (λ (z : ℕ). eqb (z % unit) 0) (moved_is n r l) ∙ sym (exact_is mode f s n 1 k (n * 2 ^ r) unit (lit< tt) (pow_pos (53 - prec f)) scale digits_few.0 (inr digits_few.1));
         over_is =
-            sym (lt-leb 0x7F80_0000 ((178 - r) * 0x80_0000 + kept) (lt_of_lt_of_le small (lit≤ tt)))
-            ∙ ap (λ (z : ℕ). leb 0x7F80_0000 ((178 - r) * 0x80_0000 + z)) kept_is
-            ∙ sym (over_is mode binary32 s n 1 (178 - r) (n * 2 ^ r) (2 ^ 29) (lit< tt) (pow_pos 29) scale digits_few.0 (inr digits_few.1));
+            sym (lt-leb (ones f * hid f) (k * hid f + kept) (last (k * hid f + kept) (ones f * hid f) small))
+            ∙ ap (λ (z : ℕ). leb (ones f * hid f) (k * hid f + z)) kept_is
+            ∙ sym (over_is mode f s n 1 k (n * 2 ^ r) unit (lit< tt) (pow_pos (53 - prec f)) scale digits_few.0 (inr digits_few.1));
         tiny_is =
             sym (and-false (ltb 0 (n * 2 ^ r)))
-            ∙ ap (λ (t : Bool). ltb 0 (n * 2 ^ r) && t) (sym (le-ltb (n * 2 ^ r / 2 ^ 29) 0x80_0000 digits_few.1))
-            ∙ sym (tiny_is mode binary32 s n 1 (178 - r) (n * 2 ^ r) (2 ^ 29) (lit< tt) (pow_pos 29) scale digits_few.0 (inr digits_few.1));
+            ∙ ap (λ (t : Bool). ltb 0 (n * 2 ^ r) && t) (sym (le-ltb (n * 2 ^ r / unit) (hid f) digits_few.1))
+            ∙ sym (tiny_is mode f s n 1 k (n * 2 ^ r) unit (lit< tt) (pow_pos (53 - prec f)) scale digits_few.0 (inr digits_few.1));
       }
+    where
+      last : (x y : ℕ) → x < y - 1 → x < y
+      last x y h = omega arith
+
+-- a double keeps all 53
+pub kept_whole : (mode : Rounding) (s : Bool) (m : ℕ) → IsCut mode s m 1 m true
+kept_whole mode s m = record { kept_is = sym (cut_exact mode s m 1 (lit< tt) (mod-one m) ∙ div-one m); exact_is = sym (ap (λ (z : ℕ). eqb z 0) (mod-one m)) }
 
 -- as a double: n is m * 2 ^ k of the smallest values, of which nothing is dropped, so that every mode gives the same
 double_at : (mode : Rounding) (s : Bool) (n k m : ℕ) → n * 2 ^ 1074 * 1 ≡ m * (1 * 2 ^ k) → m < 2 ^ 53 → Lead binary64 k m → k ≤ 1074
@@ -142,21 +132,6 @@ double_exact n h = doubled _ n h (λ k m e u l g.
     ∙ ap (λ (z : ℕ). eqb z 0) (mod-one m))
 
 -- ---- by the sign of a word
-
-value_is : (f : Format) (mode : Rounding) (g n : Bool) (signed : Bool) (w : ℕ) → signed ≡ g → leb (2 ^ 31) w ≡ n
-    → from_integer f mode signed w ≡ to_bits f (cond (g && n) (rounded mode f true (2 ^ 32 - w) 1) (rounded mode f false w 1))
-unfolding from_integer
-value_is f mode g n signed w p q = rw (p, q)
-
-module _ (f : Format) (mode : Rounding) (signed : Bool) (w bits : ℕ) where
-  pub below_zero : signed ≡ true → 2 ^ 31 ≤ w → bits ≡ to_bits f (rounded mode f true (2 ^ 32 - w) 1) → bits ≡ from_integer f mode signed w
-  below_zero e h p = p ∙ sym (value_is f mode true true signed w e (le-leb (2 ^ 31) w h))
-
-  pub signed_up : signed ≡ true → w < 2 ^ 31 → bits ≡ to_bits f (rounded mode f false w 1) → bits ≡ from_integer f mode signed w
-  signed_up e h p = p ∙ sym (value_is f mode true false signed w e (lt-leb (2 ^ 31) w h))
-
-  pub unsigned : signed ≡ false → bits ≡ to_bits f (rounded mode f false w 1) → bits ≡ from_integer f mode signed w
-  unsigned e p = p ∙ sym (value_is f mode false (leb (2 ^ 31) w) signed w e refl)
 
 -- where the word's sign is found by one test
 module _ (f : Format) (signed : Bool) (w : ℕ) (negative : Bool) (e : (signed && leb (2 ^ 31) w) ≡ negative) where
@@ -307,8 +282,7 @@ widened_value control b l = by (nan_bits binary32 b) refl
         ∙ sym (reads_nan binary32 b e)
     by false e = of_bits-to_bits binary64 (of_bits binary32 b) (fits_widens (of_bits binary32 b) (of_bits-fits binary32 b))
 
-pub by_widening : (mode : Rounding) (g : Bool) (control b bits raised w : ℕ) → b < 2 ^ 32 → w ≡ widen control b → ToInteger binary64 mode g w bits raised → ToInteger binary32 mode g b bits raised
+-- a word of a double of the same value
+pub by_value : (mode : Rounding) (g : Bool) (f : Format) (b bits raised w : ℕ) → of_bits binary64 w ≡ of_bits f b → ToInteger binary64 mode g w bits raised → ToInteger f mode g b bits raised
 unfolding to_integer to_integer_exceptions
-by_widening mode g control b bits raised w l e p =
-    let same : of_bits binary64 w ≡ of_bits binary32 b = ap (of_bits binary64) e ∙ widened_value control b l in
-    (p.0 ∙ ap (integer_of mode g) same, p.1 ∙ ap (integer_exceptions mode g) same)
+by_value mode g f b bits raised w same p = (p.0 ∙ ap (integer_of mode g) same, p.1 ∙ ap (integer_exceptions mode g) same)

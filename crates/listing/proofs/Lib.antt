@@ -1,5 +1,4 @@
 -- Laws on items, and on the words of a line.
 
-pub mod Nexts
 pub mod Items
 pub mod Splitting

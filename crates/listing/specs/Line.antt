@@ -1,14 +1,11 @@
 -- What a line says, by its words.
 use Rattle.std.specs.Prelude.{ℕ, ◌+◌, ◌-◌, Bool, true, false, cond, List, [], ◌∷◌, eqb, length, take, drop}
 use Rattle.machine.specs.Place.{control, exceptions, number, place}
-use Rattle.numerals.specs.declared.number.Number.{Number}
-use Rattle.numerals.specs.declared.number.Number.TheVariants.{Value, Wrong}
-use Rattle.listing.specs.declared.line.Item.{Item}
-use Rattle.listing.specs.declared.line.Item.TheVariants.{Nothing, Word, Set, Unknown, Window, Mistake}
+use Rattle.listing.specs.Item.{Item, Nothing, Word, Set, Unknown, Window, Mistake}
 use Rattle.listing.specs.declared.line.Expected.TheVariants as expected
-use Rattle.listing.specs.declared.line.Next.{Next}
-use Rattle.listing.specs.declared.line.Next.TheVariants as next
-use Rattle.numerals.specs.Number.{hex_of, decimal_of, value_of}
+use Rattle.listing.specs.Next.{Next}
+use Rattle.listing.specs.Next as next
+use Rattle.numerals.specs.Number.{Number, Value, Wrong, hex_of, decimal_of, value_of}
 use Rattle.place_names.specs.Place.{place_of, same, own_bits}
 use Rattle.tokens.specs.Token.{leading_of}
 

@@ -1,13 +1,16 @@
 // What a line says.
-ghost use Rattle.std.specs.Prelude.{◌≡◌, ℕ, ◌≤◌, ◌<◌, length, drop};
+ghost use Rattle.std.specs.Prelude.{◌≡◌, ℕ, ◌≤◌, ◌<◌, length, drop, Ok, Some, IfErr};
+ghost use Rattle.listing.specs.declared.line.Expected;
+ghost use Rattle.listing.specs.Item.{read, told};
+ghost use Rattle.listing.specs.Next.{named};
 ghost use Rattle.listing.specs.Line.{item_of, ended_of, set_of, set_to, window_of, window_from, unknown_of, next_place};
 
-use numerals::number::{Number, decimal_of, hex_of, value_of};
+use numerals::number::{decimal_of, hex_of, value_of};
 use place_names::place::{CONTROL, EXCEPTIONS, fits, place_of};
 use tokens::token::first;
 
 // What a line should have had.
-#[derive(Clone, Copy)]
+#[derive(Clone, Copy, Debug, PartialEq, Eq)]
 pub enum Expected {
     Item,
     Place,
@@ -22,152 +25,114 @@ pub enum Expected {
 
 // An instruction word, a place's value, places that are unknown (they are named after the first so many bytes of the line), the
 // window, or none of these.
-#[derive(Clone, Copy)]
+#[derive(Clone, Copy, Debug, PartialEq, Eq)]
 pub enum Item {
     Nothing,
     Word(u32),
     Set { place: u32, value: u32 },
     Unknown(usize),
     Window { base: u32, count: u32 },
-    Mistake(Expected),
-}
-
-// A place of a list of places, with where to go on; or the list's end.
-#[derive(Clone, Copy)]
-pub enum Next {
-    Place { place: u32, from: usize },
-    End,
-    Mistake,
 }
 
 // The item of a line, which has no comment and no line end.
-pub fn item_of(line: &[u8]) -> Item
-    ensures { result ≡ item_of line.now }
+pub fn item_of(line: &[u8]) -> Result<Item, Expected>
+    ensures { told result ≡ item_of line.now }
 {
-    let t = first(line);
-    let start = t.start;
-    let end = t.end;
-    if start == end {
-        return Item::Nothing;
+    let (word, rest) = first(line);
+    if word.is_empty() {
+        Ok(Item::Nothing)
+    } else if word == b"set".as_slice() {
+        set_of(rest)
+    } else if word == b"window".as_slice() {
+        window_of(rest)
+    } else if word == b"unknown".as_slice() {
+        unknown_of(rest, line.len() - rest.len())
+    } else if word.len() == 8 {
+        let x = hex_of(word).ok_or(Expected::Item)?;
+        ended(rest, Item::Word(x))
+    } else {
+        Err(Expected::Item)
     }
-    let word = &line[start..end];
-    let rest = &line[end..];
-    if check::same(word, b"set") {
-        return set_of(rest);
-    }
-    if check::same(word, b"window") {
-        return window_of(rest);
-    }
-    if check::same(word, b"unknown") {
-        return unknown_of(rest, end);
-    }
-    if word.len() != 8 {
-        return Item::Mistake(Expected::Item);
-    }
-    let Number::Value(x) = hex_of(word) else {
-        return Item::Mistake(Expected::Item);
-    };
-    ended(rest, Item::Word(x))
 }
 
 // An item that nothing may follow.
-fn ended(rest: &[u8], item: Item) -> Item
-    ensures { result ≡ ended_of rest.now item }
+fn ended(rest: &[u8], item: Item) -> Result<Item, Expected>
+    ensures { told result ≡ ended_of rest.now (read item) }
 {
-    let t = first(rest);
-    if t.start == t.end {
-        return item;
+    let (word, _) = first(rest);
+    if word.is_empty() {
+        Ok(item)
+    } else {
+        Err(Expected::End)
     }
-    Item::Mistake(Expected::End)
 }
 
-fn set_of(rest: &[u8]) -> Item
-    ensures { result ≡ set_of rest.now }
+fn set_of(rest: &[u8]) -> Result<Item, Expected>
+    ensures { told result ≡ set_of rest.now }
 {
-    let t = first(rest);
-    let start = t.start;
-    let end = t.end;
-    let Number::Value(place) = place_of(&rest[start..end]) else {
-        return Item::Mistake(Expected::Place);
-    };
-    set_to(place, &rest[end..])
+    let (word, rest) = first(rest);
+    let place = place_of(word).ok_or(Expected::Place)?;
+    set_to(place, rest)
 }
 
-fn set_to(place: u32, rest: &[u8]) -> Item
-    ensures { result ≡ set_to place rest.now }
+fn set_to(place: u32, rest: &[u8]) -> Result<Item, Expected>
+    ensures { told result ≡ set_to place rest.now }
 {
-    let t = first(rest);
-    let start = t.start;
-    let end = t.end;
-    let Number::Value(value) = value_of(&rest[start..end]) else {
-        return Item::Mistake(Expected::Value);
-    };
+    let (word, rest) = first(rest);
+    let value = value_of(word).ok_or(Expected::Value)?;
     if fits(place, value) {
-        return ended(&rest[end..], Item::Set { place, value });
+        return ended(rest, Item::Set { place, value });
     }
-    if place == CONTROL {
-        return Item::Mistake(Expected::Control);
-    }
-    if place == EXCEPTIONS {
-        return Item::Mistake(Expected::Exceptions);
-    }
-    Item::Mistake(Expected::Flags)
+    Err(match place {
+        CONTROL => Expected::Control,
+        EXCEPTIONS => Expected::Exceptions,
+        _ => Expected::Flags,
+    })
 }
 
-fn window_of(rest: &[u8]) -> Item
-    ensures { result ≡ window_of rest.now }
+fn window_of(rest: &[u8]) -> Result<Item, Expected>
+    ensures { told result ≡ window_of rest.now }
 {
-    let t = first(rest);
-    let start = t.start;
-    let end = t.end;
-    let Number::Value(base) = value_of(&rest[start..end]) else {
-        return Item::Mistake(Expected::Base);
-    };
-    window_from(base, &rest[end..])
+    let (word, rest) = first(rest);
+    let base = value_of(word).ok_or(Expected::Base)?;
+    window_from(base, rest)
 }
 
-fn window_from(base: u32, rest: &[u8]) -> Item
-    ensures { result ≡ window_from base rest.now }
+fn window_from(base: u32, rest: &[u8]) -> Result<Item, Expected>
+    ensures { told result ≡ window_from base rest.now }
 {
-    let t = first(rest);
-    let start = t.start;
-    let end = t.end;
-    let Number::Value(count) = decimal_of(&rest[start..end]) else {
-        return Item::Mistake(Expected::Count);
-    };
-    ended(&rest[end..], Item::Window { base, count })
+    let (word, rest) = first(rest);
+    let count = decimal_of(word).ok_or(Expected::Count)?;
+    ended(rest, Item::Window { base, count })
 }
 
 // At least one place is named.
-fn unknown_of(rest: &[u8], from: usize) -> Item
-    ensures { result ≡ unknown_of from rest.now }
+fn unknown_of(rest: &[u8], from: usize) -> Result<Item, Expected>
+    ensures { told result ≡ unknown_of from rest.now }
 {
-    let t = first(rest);
-    if t.start == t.end {
-        return Item::Mistake(Expected::Place);
+    let (word, _) = first(rest);
+    if word.is_empty() {
+        Err(Expected::Place)
+    } else {
+        Ok(Item::Unknown(from))
     }
-    Item::Unknown(from)
 }
 
-// The place that a line names from a position on.
-pub fn next_place(line: &[u8], from: usize) -> Next
-    ensures { ((p n : ℕ) → result ≡ Next.Place p n → (from < n) × (n ≤ length line.now)) × (result ≡ next_place from (drop from line.now)) }
+// The place that a line names from a position on, with where to go on; none where the line names no more.
+pub fn next_place(line: &[u8], from: usize) -> Result<Option<(u32, usize)>, Expected>
+    ensures next { named result ≡ next_place from (drop from line.now) }
+    ensures further { (p n : ℕ) → result ≡ Ok (Some (p, n)) → (from < n) × (n ≤ length line.now) }
+    ensures expected { IfErr result (λ e. e ≡ Expected.Place) }
 {
     if line.len() < from {
-        return Next::End;
+        return Ok(None);
     }
-    let rest = &line[from..];
-    let t = first(rest);
-    let start = t.start;
-    let end = t.end;
-    if start == end {
-        return Next::End;
+    let (word, rest) = first(&line[from..]);
+    if word.is_empty() {
+        return Ok(None);
     }
-    let Number::Value(place) = place_of(&rest[start..end]) else {
-        return Next::Mistake;
-    };
-    Next::Place {
-        place,
-        from: from + end,
+    match place_of(word) {
+        Some(place) => Ok(Some((place, line.len() - rest.len()))),
+        None => Err(Expected::Place),
     }
 }

@@ -6,14 +6,14 @@ ghost use Rattle.rounding.specs.Rounding.{rounding_of, cut_to, increment, IsCut}
 ghost use Rattle.exceptions.specs.Exceptions.{settled_exceptions};
 ghost use Rattle.widths.specs.Convert.{IsNarrowed, narrow, narrow_exceptions};
 
-use exceptions::exceptions::{Raised32, flushed_exceptions32, nan_exceptions64, settled};
-use floats::flush::flush32;
+use exceptions::exceptions::{Raised, flushed_exceptions, nan_exceptions, settled};
+use floats::flush::flush;
 use nans::nan::narrowed_nan;
-use packing::pack::{Settled32, settle32, sign32};
+use packing::pack::{Settled, settle, sign};
 use rounding::rounding::{Rounded, Rounding, cut, rounding_of};
 
 // A double's bits as the single that the mode asks for, rounded once.
-fn narrowed32(mode: Rounding, b: u64) -> Settled32
+fn narrowed(mode: Rounding, b: u64) -> Settled<u32>
     ensures { IsNarrowed mode binary32 (of_bits binary64 b) result.bits result.exact result.over result.tiny }
 {
     let negative = b >= 0x8000_0000_0000_0000;
@@ -21,14 +21,14 @@ fn narrowed32(mode: Rounding, b: u64) -> Settled32
     let t = b % 0x10_0000_0000_0000;
     if field == 2047 {
         if t == 0 {
-            return Settled32 {
-                bits: (sign32(negative) + 0x7F80_0000) as u32,
+            return Settled {
+                bits: (sign::<u32>(negative) + 0x7F80_0000) as u32,
                 exact: true,
                 over: false,
                 tiny: false,
             };
         }
-        return Settled32 {
+        return Settled {
             bits: 0x7FC0_0000,
             exact: true,
             over: false,
@@ -36,9 +36,9 @@ fn narrowed32(mode: Rounding, b: u64) -> Settled32
         };
     }
     if field == 0 {
-        return settle32(mode, negative, t * 512, 1126);
+        return settle(mode, negative, t * 512, 1126);
     }
-    settle32(
+    settle(
         mode,
         negative,
         (0x10_0000_0000_0000 + t) * 512,
@@ -88,11 +88,11 @@ pub fn shorten(control: u32, negative: bool, m: u64) -> Rounded
 
 // The kept digits of a normal double, which are the pattern of a normal single or, where they are too large, of the infinity; with its sign, and what
 // rounding raised. The 29 digits that a single drops tell what was left.
-fn signed(b: u64, kept: u64) -> Raised32
+fn signed(b: u64, kept: u64) -> Raised<u32>
     requires { kept ≤ 0x7F80_0000 }
     ensures { (result.bits ≡ b / 2 ^ 63 * 2 ^ 31 + kept) × (result.exceptions ≡ settled_exceptions (eqb (b % 2 ^ 29) 0) (leb 0x7F80_0000 kept) false) }
 {
-    Raised32 {
+    Raised {
         bits: (b / 0x8000_0000_0000_0000 * 0x8000_0000 + kept) as u32,
         exceptions: settled(b % 0x2000_0000 == 0, kept >= 0x7F80_0000, false),
     }
@@ -100,7 +100,7 @@ fn signed(b: u64, kept: u64) -> Raised32
 
 // The single that the mode asks for, flushed as a single, and what it raises. Where a normal double becomes a normal single, or is too large by its
 // last digits alone, its pattern is cut as it stands: in mode 00 by one sum.
-pub fn narrow(control: u32, b: u64) -> Raised32
+pub fn narrow(control: u32, b: u64) -> Raised<u32>
     ensures { (result.bits ≡ narrow control b) × (result.exceptions ≡ narrow_exceptions control b) }
 {
     let negative = b >= 0x8000_0000_0000_0000;
@@ -125,14 +125,14 @@ pub fn narrow(control: u32, b: u64) -> Raised32
         }
     }
     if size > 0x7FF0_0000_0000_0000 {
-        return Raised32 {
+        return Raised {
             bits: narrowed_nan(control, b),
-            exceptions: nan_exceptions64(b, b),
+            exceptions: nan_exceptions(b, b),
         };
     }
-    let r = narrowed32(rounding_of(control), b);
-    Raised32 {
-        bits: flush32(control, r.bits),
-        exceptions: flushed_exceptions32(control, r.bits, settled(r.exact, r.over, r.tiny)),
+    let r = narrowed(rounding_of(control), b);
+    Raised {
+        bits: flush(control, r.bits),
+        exceptions: flushed_exceptions(control, r.bits, settled(r.exact, r.over, r.tiny)),
     }
 }

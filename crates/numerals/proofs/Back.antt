@@ -8,7 +8,7 @@ use mathlib.Core.List.{List, [], ◌∷◌, ◌++◌}
 use lib.Dec.{eqb, ltb}
 use lib.ListN.{length}
 use borrow.Author.Tests.{lt-ltb, le-ltb, ltb-true, ltb-false, le-leb, eqb-true}
-use Rattle.numerals.specs.declared.number.Number.TheVariants.{Value}
+use Rattle.numerals.specs.Number.{Value}
 use Rattle.numerals.specs.Number.{digit_of, read_from, hex_of, decimal_of, digit_text, digits_text, stripped, hex_text, decimal_text}
 use Rattle.numerals.proofs.Digits.{digits_length}
 

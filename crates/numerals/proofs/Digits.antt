@@ -5,9 +5,16 @@ use native.Mathlib.Numerals.{add-one, sub-one}
 use native.Mathlib.Nat.{mod-eq_of_lt, mod-lt}
 use mathlib.Core.Path.{◌≡◌, refl, ◌∙◌, ap}
 use mathlib.Core.List.{List, [], ◌∷◌, ◌++◌, append_assoc, append-nil}
-use lib.ListN.{length, get_or, take, drop, set, length-set, length-append, length-drop}
+use lib.ListN.{length, take, drop, set, length-set, length-append, length-drop}
 use lib.Seq.{drop-cons, get_or-set_same, drop-set-lt, drop-length, take_all}
-use borrow.Author.Tests.{ne_eqb}
+use mathlib.Core.Bool.{Bool, true, false, cond, not}
+use lib.Dec.{eqb, ltb}
+use borrow.Author.Tests.{ltb-false}
+use native.Mathlib.Nat.{add_comm}
+use lib.ListN.{length-take}
+use Rattle.std.specs.Prelude.{Option, Some, None, unwrap_or}
+use Rattle.std.proofs.lemmas.List.Sums.{prefix_len-le-length}
+use Rattle.std.specs.List.{position_or_len}
 use Rattle.numerals.specs.Number.{digit_text, digits_text, stripped, decimal_text}
 
 -- the digit before those that stand already
@@ -32,25 +39,35 @@ unfolding digits_text
 digits_end base rest out z zero h e = e
 digits_end base rest out z (suc i) h e = absurd (omega arith)
 
-module _ (t : List ℕ) (n : ℕ) (m : n < 9) (h : n < length t) where
-  next : suc (9 - (n + 1)) ≡ 9 - n
-  next = omega arith
+-- the zeros in front, among the first n bytes
+module _ where
+  abbrev pub other : ℕ → Bool
+  other d = not (eqb d 48)
 
-  -- a zero in front
-  pub strip_zero : get_or t n 0 ≡ 48 → stripped (9 - (n + 1)) (drop (n + 1) t) ≡ stripped (9 - n) (drop n t)
+  pub strip_zeros : (n : ℕ) (t : List ℕ) → n ≤ length t → drop (position_or_len other (take n t)) t ≡ stripped n t
   unfolding stripped
-  strip_zero e = on (9 - (n + 1)) ∙ ap (λ (k : ℕ). stripped k (drop n t)) next
+  strip_zeros zero t h = refl
+  strip_zeros (suc n) [] h = absurd (omega arith)
+  strip_zeros (suc n) (b ∷ t) h = by (eqb b 48) (strip_zeros n t (omega arith))
     where
-      on : (k : ℕ) → stripped k (drop (n + 1) t) ≡ stripped (suc k) (drop n t)
-      on k = rw (add-one n, drop-cons t n 0 h, e)
+      by : (k : Bool) → drop (position_or_len other (take n t)) t ≡ stripped n t → drop (cond (not (not k)) (1 + position_or_len other (take n t)) 0) (b ∷ t) ≡ cond k (stripped n t) (b ∷ t)
+      by true i = rw (add_comm 1, add-one) i
+      by false i = refl
 
-  -- another digit
-  pub strip_digit : (get_or t n 0 ≡ 48 → ⊥) → drop n t ≡ stripped (9 - n) (drop n t)
-  unfolding stripped
-  strip_digit e = on (9 - (n + 1)) ∙ ap (λ (k : ℕ). stripped k (drop n t)) next
-    where
-      on : (k : ℕ) → drop n t ≡ stripped (suc k) (drop n t)
-      on k = rw (drop-cons t n 0 h, ne_eqb (get_or t n 0) 48 e)
+-- what is found among nine of ten digits, or nine
+pub zeros_found : (t : List ℕ) (o : Option ℕ) (r : ℕ) → length t ≡ 10 → o ≡ cond (ltb (position_or_len other (take 9 t)) (length (take 9 t))) (Some (position_or_len other (take 9 t))) None → r ≡ unwrap_or o 9 → (r ≤ 9) × (drop r t ≡ stripped 9 t)
+zeros_found t o r h e f =
+    let p = position_or_len other (take 9 t) in
+    let nine : length (take 9 t) ≡ 9 = omega (arith, length-take 9 t) in
+    let few : p ≤ 9 = omega (arith, prefix_len-le-length (λ d. not (other d)) (take 9 t)) in
+    let is : r ≡ p = by (ltb p (length (take 9 t))) refl e f in
+    (omega arith, ap (λ (k : ℕ). drop k t) is ∙ strip_zeros 9 t (omega arith))
+  where
+    by : (b : Bool) → ltb (position_or_len other (take 9 t)) (length (take 9 t)) ≡ b → o ≡ cond b (Some (position_or_len other (take 9 t))) None → r ≡ unwrap_or o 9 → r ≡ position_or_len other (take 9 t)
+    by true g e f = rw e at f
+    by false g e f =
+        let q : r ≡ 9 = rw e at f in
+        omega (arith, ltb-false (position_or_len other (take 9 t)) (length (take 9 t)) g, length-take 9 t, prefix_len-le-length (λ d. not (other d)) (take 9 t))
 
 pub digits_length : (base n x : ℕ) → length (digits_text base n x) ≡ n
 unfolding digits_text
@@ -58,15 +75,6 @@ digits_length base zero x = refl
 digits_length base (suc n) x =
     length-append (digits_text base n (x / base)) (digit_text (x % base) ∷ [])
     ∙ rw (digits_length base n (x / base)) (add-one n)
-
--- nine zeros were left out
-pub strip_end : (t z : List ℕ) (n : ℕ) → n ≤ 9 → 9 ≤ n → stripped (9 - n) (drop n t) ≡ z → drop n t ≡ z
-unfolding stripped
-strip_end t z n h k e = left (9 - n) (omega arith) e
-  where
-    left : (m : ℕ) → m ≡ 0 → stripped m (drop n t) ≡ z → drop n t ≡ z
-    left zero q r = r
-    left (suc m) q r = absurd (omega arith)
 
 -- ten digits without the zeros in front
 pub decimal_part : (d : List ℕ) (n x : ℕ) → d ≡ digits_text 10 10 x → drop n d ≡ stripped 9 d → take (10 - n) (drop n d) ≡ decimal_text x

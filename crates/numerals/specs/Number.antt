@@ -1,7 +1,10 @@
 -- Numbers as text, in bytes of ASCII.
-use Rattle.std.specs.Prelude.{ℕ, zero, suc, ◌+◌, ◌-◌, ◌*◌, ◌/◌, ◌%◌, ◌^◌, cond, List, [], ◌∷◌, ◌++◌, eqb, leb, ltb, length}
-use Rattle.numerals.specs.declared.number.Number.{Number}
-use Rattle.numerals.specs.declared.number.Number.TheVariants.{Value, Wrong}
+use Rattle.std.specs.Prelude.{ℕ, zero, suc, ◌+◌, ◌-◌, ◌*◌, ◌/◌, ◌%◌, ◌^◌, cond, List, [], ◌∷◌, ◌++◌, eqb, leb, ltb, length, Option}
+pub use Rattle.std.specs.Prelude.{Some as Value, None as Wrong}
+
+-- the number that a text is, below 2 ^ 32, or none: Value is Some, and Wrong is None
+abbrev pub Number : Type 0
+Number = Option ℕ
 
 -- what a byte is worth as a digit: 0 to 9, A to F, a to f, and 16 for all others
 unfoldable pub digit_of : ℕ → ℕ

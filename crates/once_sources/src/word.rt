@@ -9,7 +9,8 @@ ghost use Rattle.sources.specs.Source.{Tracing};
 ghost use Rattle.compare_steps.specs.Compare.{compare_step, compare_zero_step};
 
 use machine::place::FLAGS;
-use register_fields::fields::{double_d, double_m, single_d, single_m};
+use register_fields::fields::{d_of, m_of};
+use registers::registers::{Double, Single};
 use sources::Source;
 use sources::rule::source_of;
 use step_sources::unknown::{of_control, of_double, of_doubles, of_singles};
@@ -19,10 +20,10 @@ pub fn compare(marks: u64, double: bool, op: u32, q: u32) -> Source
     ensures { (any : Bool) → Tracing (compare_step (precision double) any (reg_d (precision double) op) (reg_m (precision double) op)) marks q result }
 {
     if double {
-        let p = of_doubles(marks, double_d(op), double_m(op));
+        let p = of_doubles(marks, d_of(op), m_of(op));
         return source_of(marks, q, FLAGS as u32, 1, p, p);
     }
-    let p = of_singles(marks, single_d(op), single_m(op));
+    let p = of_singles(marks, d_of(op), m_of(op));
     source_of(marks, q, FLAGS as u32, 1, p, p)
 }
 
@@ -30,10 +31,10 @@ pub fn compare_zero(marks: u64, double: bool, op: u32, q: u32) -> Source
     ensures { (any : Bool) → Tracing (compare_zero_step (precision double) any (reg_d (precision double) op)) marks q result }
 {
     if double {
-        let p = of_double(marks, double_d(op));
+        let p = of_double(marks, d_of(op));
         return source_of(marks, q, FLAGS as u32, 1, p, p);
     }
-    let d = single_d(op);
+    let d = d_of::<Single>(op);
     let p = (d.0 % 32) as u32;
     source_of(marks, q, FLAGS as u32, 1, p, p)
 }
@@ -42,8 +43,8 @@ pub fn compare_zero(marks: u64, double: bool, op: u32, q: u32) -> Source
 pub fn widened(marks: u64, op: u32, q: u32) -> Source
     ensures { Tracing (widen_step (reg_d binary64 op) (reg_m binary32 op)) marks q result }
 {
-    let d = double_d(op);
-    let m = single_m(op);
+    let d = d_of::<Double>(op);
+    let m = m_of::<Single>(op);
     let p = (m.0 % 32) as u32;
     source_of(marks, q, (d.0 % 16 * 2) as u32, 2, of_control(marks, p), p)
 }
@@ -51,8 +52,8 @@ pub fn widened(marks: u64, op: u32, q: u32) -> Source
 pub fn narrowed(marks: u64, op: u32, q: u32) -> Source
     ensures { Tracing (narrow_step (reg_d binary32 op) (reg_m binary64 op)) marks q result }
 {
-    let d = single_d(op);
-    let p = of_control(marks, of_double(marks, double_m(op)));
+    let d = d_of::<Single>(op);
+    let p = of_control(marks, of_double(marks, m_of(op)));
     source_of(marks, q, (d.0 % 32) as u32, 1, p, p)
 }
 
@@ -60,13 +61,13 @@ pub fn narrowed(marks: u64, op: u32, q: u32) -> Source
 pub fn from_integer(marks: u64, double: bool, op: u32, q: u32) -> Source
     ensures { (signed : Bool) → Tracing (from_step (precision double) signed (reg_d (precision double) op) (reg_m binary32 op)) marks q result }
 {
-    let m = single_m(op);
+    let m = m_of::<Single>(op);
     let p = (m.0 % 32) as u32;
     if double {
-        let d = double_d(op);
+        let d = d_of::<Double>(op);
         return source_of(marks, q, (d.0 % 16 * 2) as u32, 2, p, p);
     }
-    let d = single_d(op);
+    let d = d_of::<Single>(op);
     source_of(marks, q, (d.0 % 32) as u32, 1, of_control(marks, p), p)
 }
 
@@ -74,12 +75,12 @@ pub fn from_integer(marks: u64, double: bool, op: u32, q: u32) -> Source
 pub fn rounded(marks: u64, double: bool, op: u32, q: u32) -> Source
     ensures { (signed : Bool) → Tracing (round_step (precision double) signed (reg_d binary32 op) (reg_m (precision double) op)) marks q result }
 {
-    let d = single_d(op);
+    let d = d_of::<Single>(op);
     if double {
-        let p = of_control(marks, of_double(marks, double_m(op)));
+        let p = of_control(marks, of_double(marks, m_of(op)));
         return source_of(marks, q, (d.0 % 32) as u32, 1, p, p);
     }
-    let m = single_m(op);
+    let m = m_of::<Single>(op);
     let p = of_control(marks, (m.0 % 32) as u32);
     source_of(marks, q, (d.0 % 32) as u32, 1, p, p)
 }
@@ -87,12 +88,12 @@ pub fn rounded(marks: u64, double: bool, op: u32, q: u32) -> Source
 pub fn truncated(marks: u64, double: bool, op: u32, q: u32) -> Source
     ensures { (signed : Bool) → Tracing (truncate_step (precision double) signed (reg_d binary32 op) (reg_m (precision double) op)) marks q result }
 {
-    let d = single_d(op);
+    let d = d_of::<Single>(op);
     if double {
-        let p = of_double(marks, double_m(op));
+        let p = of_double(marks, m_of(op));
         return source_of(marks, q, (d.0 % 32) as u32, 1, p, p);
     }
-    let m = single_m(op);
+    let m = m_of::<Single>(op);
     let p = (m.0 % 32) as u32;
     source_of(marks, q, (d.0 % 32) as u32, 1, p, p)
 }

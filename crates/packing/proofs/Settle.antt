@@ -10,18 +10,11 @@ use lib.Dec.{ltb, lit≤, leb}
 use lib.Pow.{pow-add, pow_pos, pow_mono, shr_lt}
 use lib.Ieee.{Format, binary32, binary64, prec, low, hid, ones, top, to_bits}
 use Rattle.rounding.specs.Rounding.{IsCut}
-use Rattle.packing.specs.Pack.{ceiling, packed, IsPacked, IsSettled}
+use Rattle.packing.specs.Pack.{ceiling, packed, spare, edge, IsPacked, IsSettled}
 use Rattle.rounding.specs.declared.rounding.Rounding.{Rounding}
 use Rattle.floats.proofs.Units.{Lead}
 use Rattle.rounding.proofs.Cutting.{cut_far, rest_far, whole_far}
 use Rattle.packing.proofs.Written.{ceiling-le, rounded_bits, exact_is, over_is, tiny_is, rounded_same, exact_same, over_same, tiny_same}
-
--- how many of 62 digits the format drops, and from which e on it drops no more
-abbrev pub spare : Format → ℕ
-spare f = 62 - prec f
-
-abbrev pub edge : Format → ℕ
-edge f = 2209 - low f - spare f
 
 module _ (mode : Rounding) (f : Format) (s : Bool) (m e sh k : ℕ) (exps : e + low f + sh ≡ 2209 + k) (small : m / 2 ^ sh < 2 ^ prec f) (lead : Lead f k (m / 2 ^ sh)) where
   scale : m * 2 ^ e * 2 ^ low f * 2 ^ sh ≡ m * (2 ^ 2209 * 2 ^ k)
@@ -121,3 +114,17 @@ pack_fits mode f s sign least most size p q r =
 
     least_le : (a b : ℕ) → min a b ≤ b
     least_le a b = omega arith
+
+-- ---- what the code needs of a width
+
+pub spare_some : (f : Format) → 9 ≤ spare f
+spare_some binary32 = lit≤ tt
+spare_some binary64 = lit≤ tt
+
+pub size_fits : (f : Format) (k h c : ℕ) → h ≡ hid f → k < 4000 → c ≤ 2 ^ 53 → k * h + c < 2 ^ 64
+size_fits binary32 k h c e p q = rw e (omega arith)
+size_fits binary64 k h c e p q = rw e (omega arith)
+
+pub edge_some : (f : Format) → 1000 ≤ edge f
+edge_some binary32 = lit≤ tt
+edge_some binary64 = lit≤ tt

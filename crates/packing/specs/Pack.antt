@@ -1,7 +1,7 @@
 -- The pattern of a rounded size: what packing gives. Assumes nothing.
 use Rattle.std.specs.Prelude.{ℕ, ◌+◌, ◌-◌, ◌*◌, ◌/◌, ◌%◌, min, ◌≡◌, Bool, ◌&&◌, cond, leb, ltb, eqb}
 use Rattle.std.specs.Float.{Format}
-use Rattle.std.specs.Float.Ieee.{hid, ones, top, to_bits}
+use Rattle.std.specs.Float.Ieee.{prec, low, hid, ones, top, to_bits}
 use Rattle.rounding.specs.Rounding.{cut_to, rounded, exact, over, tiny}
 use Rattle.rounding.specs.declared.rounding.Rounding.{Rounding}
 use Rattle.rounding.specs.declared.rounding.Rounding.TheVariants.{Nearest, Up, Down, Zero}
@@ -12,6 +12,13 @@ ceiling Nearest f s = ones f * hid f
 ceiling Up f s = cond s (ones f * hid f - 1) (ones f * hid f)
 ceiling Down f s = cond s (ones f * hid f) (ones f * hid f - 1)
 ceiling Zero f s = ones f * hid f - 1
+
+-- how many of 62 digits the format drops, and from which e of m * 2 ^ e / 2 ^ 2209 on it drops no more
+abbrev pub spare : Format → ℕ
+spare f = 62 - prec f
+
+abbrev pub edge : Format → ℕ
+edge f = 2209 - low f - spare f
 
 -- the pattern of c * 2 ^ k of the smallest values, and of what is too large
 abbrev pub packed : Rounding → Format → Bool → ℕ → ℕ → ℕ

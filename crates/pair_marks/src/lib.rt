@@ -11,7 +11,7 @@ ghost use Rattle.place_marks.specs.Word.{map_in};
 
 use addresses::halves::{high_word, low_word};
 use bits::field::{bit, bits};
-use register_marks::register::{core_known, mark_core, mark_single, single_known};
+use register_marks::register::{MarkedRegister, core_known, mark_core};
 use registers::registers::{Single, dreg, sreg};
 
 pub fn mark_pair(marks: u64, op: u32, double: bool) -> u64
@@ -34,9 +34,9 @@ fn mark_both(marks: u64, op: u32, first: Single, second: Single) -> u64
     let rt = bits(op, 12, 15) as usize;
     let rt2 = bits(op, 16, 19) as usize;
     if bit(op, 20) {
-        let y = mark_core(marks, rt, single_known(marks, first));
-        return mark_core(y, rt2, single_known(marks, second));
+        let y = mark_core(marks, rt, first.known(marks));
+        return mark_core(y, rt2, second.known(marks));
     }
-    let y = mark_single(marks, first, core_known(marks, rt));
-    mark_single(y, second, core_known(marks, rt2))
+    let y = first.mark(marks, core_known(marks, rt));
+    second.mark(y, core_known(marks, rt2))
 }

@@ -1,6 +1,6 @@
 // The line of a report that spells the cumulative exceptions.
 ghost use Rattle.std.specs.Prelude.{◌≡◌, ◌++◌};
-ghost use Rattle.text.specs.Text.{text_of, clip};
+ghost use Rattle.text.specs.Text.{clip};
 ghost use Rattle.place_lines.specs.Exceptions.{raised_text, exceptions_text, exceptions_told};
 
 use place_values::place::differs;
@@ -8,7 +8,7 @@ use text::text::Text;
 
 // A name that is told or not, the first or a later one.
 fn also(t: Text, told: bool, first: bool, name: &[u8]) -> Text
-    ensures { text_of result ≡ clip (text_of t ++ raised_text told first name.now) }
+    ensures { result ≡ clip (t ++ raised_text told first name.now) }
 {
     if !told {
         return t.add(b"");
@@ -21,7 +21,7 @@ fn also(t: Text, told: bool, first: bool, name: &[u8]) -> Text
 
 // Those of bits 0 to 4 that are set.
 pub fn exceptions(x: u32) -> Text
-    ensures { text_of result ≡ clip (exceptions_text x) }
+    ensures { result ≡ clip (exceptions_text x) }
 {
     let a = Text::new().add(b"exceptions:");
     let b = also(a, x % 2 == 1, true, b"invalid");

@@ -9,7 +9,7 @@ use lib.Dec.{ltb}
 use lib.ListN.{length}
 use borrow.Author.Tests.{lt-ltb, ltb-true, ltb-false, ne_eqb}
 use Rattle.machine.specs.Place.{before}
-use Rattle.numerals.specs.declared.number.Number.TheVariants.{Value}
+use Rattle.numerals.specs.Number.{Value}
 use Rattle.numerals.specs.Number.{digit_of, decimal_of, digits_text, decimal_text}
 use Rattle.place_names.specs.Place.{place_of, place_text, letter_of, same, within, flags_text, control_text, fpexc_text, nzcv_text, exceptions_text}
 use Rattle.numerals.proofs.Digits.{digits_length}

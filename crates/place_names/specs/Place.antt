@@ -1,8 +1,8 @@
 -- A place's name as text, and the place that a text names.
 use Rattle.std.specs.Prelude.{ℕ, ◌+◌, ◌%◌, ◌^◌, Bool, true, false, cond, ◌&&◌, List, [], ◌∷◌, eqb, ltb}
 use Rattle.machine.specs.Place as Machine
-use Rattle.numerals.specs.declared.number.Number.{Number}
-use Rattle.numerals.specs.declared.number.Number.TheVariants.{Value, Wrong}
+use Rattle.numerals.specs.Number.{Number}
+use Rattle.numerals.specs.Number.{Value, Wrong}
 use Rattle.numerals.specs.Number.{decimal_of, decimal_text}
 
 -- flags, control, fpexc, nzcv, exceptions

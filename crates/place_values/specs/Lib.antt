@@ -1,2 +1,3 @@
 -- What the buffers say of each place.
 pub mod Place
+pub mod Seen

@@ -28,7 +28,7 @@ use Rattle.register_fields.specs.Fields.{reg_d, reg_n, reg_m}
 use Rattle.decoding.specs.Operation.{operation_numbered, arithmetic_of}
 use Rattle.decoding.specs.contracts.operation.Operation.{the_type}
 use Rattle.decoding.proofs.Named.{one_of}
-use Rattle.processing.specs.Data.{operation_tree, named_tree, dyadic, monadic, Handled}
+use Rattle.processing.specs.Data.{convert_step, operation_tree, named_tree, dyadic, monadic, Handled}
 use Rattle.processing.specs.declared.Processed.TheVariants.{Done, Undefined}
 use Rattle.processing.proofs.Done.{dyadic_done, monadic_done, once_done}
 
@@ -108,6 +108,11 @@ module _ (f : Format) (w : ℕ) (s : List ℕ) (fpscr : ℕ) (s' : List ℕ) (o 
     unfolding operation_tree
     truncated true e = stepped d' m' (truncate_step f true) (λ thumb. rw e)
     truncated false e = stepped d' m' (truncate_step f false) (λ thumb. rw e)
+
+  -- between the widths, by the width that the word's own is
+  pub converted : o ≡ Fcvt → (fpscr' : ℕ) → SteppedWith (convert_step f w) fpscr s fpscr' s' → Does fpscr'
+  unfolding operation_tree
+  converted e = stepped zero_is zero_is (λ d m. convert_step f w) (λ thumb. rw e)
 
   pub undefined : o ≡ O.Undefined → Handled (named_tree f w o) w s fpscr s Undefined
   unfolding operation_tree

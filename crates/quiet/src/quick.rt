@@ -1,81 +1,40 @@
 // A native result that is stored as it is, whatever FZ says, and raises nothing or inexact alone, as its word shows: in mode 00.
-ghost use Rattle.std.specs.Prelude.{◌≡◌, ℕ, ◌/◌, ◌%◌, ◌^◌, true};
-ghost use Rattle.std.specs.Float.{binary32, binary64};
+ghost use Rattle.std.specs.Prelude.{◌≡◌, ℕ, ◌/◌, ◌%◌, ◌^◌, true, IfSome};
 ghost use Rattle.numbers.specs.Arithmetic.{accumulates};
 ghost use Rattle.quiet.specs.Quiet.{Within, Product, IsQuick};
 
-use numbers::arithmetic::{Arithmetic, Quick32, Quick64, native32, native64, none32, none64};
+use floats::parts::infinity;
+use floats::precision::Precision;
+use numbers::arithmetic::{Arithmetic, native};
 
 // The first sum drops the sign, and the second puts what is at most the least normal value last.
-fn is_within32(w: u32) -> bool
-    ensures { result ≡ true → Within binary32 w }
+fn is_within<W: Precision>(w: W) -> bool
+    ensures { result ≡ true → Within W.format (W.number w) }
 {
-    let doubled = std::num::wrapping_add_u32(w, w);
-    std::num::wrapping_add_u32(doubled, 0xFEFF_FFFE) < 0xFDFF_FFFE
+    let doubled = w.wrapping_add(w);
+    let below = W::of_wide((W::SIGN - W::LEAST - 1) * 2);
+    doubled.wrapping_add(below).wide() < (infinity::<W>() - W::LEAST - 1) * 2
 }
 
 // Whether an accumulate's product is within as well.
-fn is_product32(accumulate: bool, n: u32, m: u32, d: u32) -> bool
-    ensures { result ≡ true → Product binary32 accumulate n m d }
+fn is_product<W: Precision>(accumulate: bool, n: W, m: W, d: W) -> bool
+    ensures { result ≡ true → Product W.format accumulate (W.number n) (W.number m) (W.number d) }
 {
     if accumulate {
-        let p = native32(Arithmetic::Multiply, n, m, d);
-        if p.taken {
-            return is_within32(p.bits);
-        }
-        return false;
+        return native(Arithmetic::Multiply, n, m, d).is_some_and(|p| is_within(p));
     }
     true
 }
 
 // Whether the kind accumulates is handed over: the callers know it before they look at the kind.
-pub fn quick32(kind: Arithmetic, accumulate: bool, n: u32, m: u32, d: u32) -> Quick32
+pub fn quick<W: Precision>(kind: Arithmetic, accumulate: bool, n: W, m: W, d: W) -> Option<W>
     requires { accumulate ≡ accumulates kind }
-    ensures { result.taken ≡ true → (control : ℕ) → control / 2 ^ 22 % 4 ≡ 0 → IsQuick binary32 control kind n m d result.bits }
+    ensures { IfSome result (λ w. (control : ℕ) → control / 2 ^ 22 % 4 ≡ 0 → IsQuick W.format control kind (W.number n) (W.number m) (W.number d) (W.number w)) }
 {
-    let x = native32(kind, n, m, d);
-    if x.taken {
-        if is_within32(x.bits) {
-            if is_product32(accumulate, n, m, d) {
-                return x;
-            }
-        }
+    let w = native(kind, n, m, d)?;
+    if is_within(w) && is_product(accumulate, n, m, d) {
+        Some(w)
+    } else {
+        None
     }
-    none32()
-}
-
-fn is_within64(w: u64) -> bool
-    ensures { result ≡ true → Within binary64 w }
-{
-    let doubled = std::num::wrapping_add_u64(w, w);
-    std::num::wrapping_add_u64(doubled, 0xFFDF_FFFF_FFFF_FFFE) < 0xFFBF_FFFF_FFFF_FFFE
-}
-
-// Whether an accumulate's product is within as well.
-fn is_product64(accumulate: bool, n: u64, m: u64, d: u64) -> bool
-    ensures { result ≡ true → Product binary64 accumulate n m d }
-{
-    if accumulate {
-        let p = native64(Arithmetic::Multiply, n, m, d);
-        if p.taken {
-            return is_within64(p.bits);
-        }
-        return false;
-    }
-    true
-}
-
-pub fn quick64(kind: Arithmetic, accumulate: bool, n: u64, m: u64, d: u64) -> Quick64
-    requires { accumulate ≡ accumulates kind }
-    ensures { result.taken ≡ true → (control : ℕ) → control / 2 ^ 22 % 4 ≡ 0 → IsQuick binary64 control kind n m d result.bits }
-{
-    let x = native64(kind, n, m, d);
-    if x.taken {
-        if is_within64(x.bits) {
-            if is_product64(accumulate, n, m, d) {
-                return x;
-            }
-        }
-    }
-    none64()
 }

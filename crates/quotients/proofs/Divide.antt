@@ -1,14 +1,14 @@
 -- A quotient's digits. Assumes nothing.
-use mathlib.Core.Path.{◌≡◌, ap}
+use mathlib.Core.Path.{◌≡◌, refl, ap, ◌∙◌}
 use mathlib.Core.Logic.{inl}
-use Prim.Native.Nat.{ℕ, suc, ◌+◌, ◌*◌, ◌/◌, ◌%◌, ◌^◌, ◌≤◌, ◌<◌}
+use Prim.Native.Nat.{ℕ, zero, suc, ◌+◌, ◌*◌, ◌/◌, ◌%◌, ◌^◌, ◌≤◌, ◌<◌}
 use native.Mathlib.Nat.{le_trans, le_of_eq, lt_of_lt_of_le, mul-le-mul_right, mul_comm, mod-lt, div-add-mod', div-lt_iff_lt-mul, le-div_iff_mul-le}
 use native.Mathlib.Decide.{dec_lt}
 use native.Mathlib.Omega.{arith}
 use lib.Pow.{pow_pos}
 use Rattle.digits.specs.Digits.{sticky, IsFolded}
 use Rattle.quotients.specs.Divided.{IsDivided}
-use Rattle.digits.proofs.Raising.{sticky-le}
+use Rattle.digits.proofs.Raising.{sticky-le, sticky_some}
 
 pos : (r d : ℕ) → r < d → 0 < d
 pos r d h = omega arith
@@ -86,9 +86,33 @@ short_bounds a b A A' B B' = (some b B, (le-div_iff_mul-le (some b B)).1 (low a 
     high : (a b : ℕ) → a < 2 ^ 53 → 2 ^ 52 ≤ b → a * 512 < 2 ^ 60 * (b / 0x2000_0000)
     high a b h k = omega arith
 
-pub single_folded : (a b t : ℕ) → 2 ^ 52 ≤ a → a < 2 ^ 53 → 2 ^ 52 ≤ b → b < 2 ^ 53 → t ≡ sticky (a * 512 % (b / 0x2000_0000))
-    → IsFolded 24 (a * 2 ^ 9) (b / 0x2000_0000) (a * 512 / (b / 0x2000_0000) * 2 + t) × (0 < a * 512 / (b / 0x2000_0000) * 2 + t)
-single_folded a b t A A' B B' e =
+-- the last 29 digits of the divisor are 0, so that the rest has as many below it
+pub single_folded : (a b t : ℕ) → 2 ^ 52 ≤ a → a < 2 ^ 53 → 2 ^ 52 ≤ b → b < 2 ^ 53 → b % 2 ^ 29 ≡ 0 → t ≡ sticky (a * 512 % (b / 0x2000_0000))
+    → IsFolded 24 (a * 2 ^ 38) b (a * 512 / (b / 0x2000_0000) * 2 + t) × (0 < a * 512 / (b / 0x2000_0000) * 2 + t)
+single_folded a b t A A' B B' z e =
     let d = b / 0x2000_0000 in
     let h = short_bounds a b A A' B B' in
-    folded 24 (a * 2 ^ 9) d (a * 512 / d) (a * 512 % d) t (record { sum = div-add-mod' (a * 512) d; small = mod-lt (a * 512) h.0 }) e h.1 h.2
+    let r = a * 512 % d in
+    folded 24 (a * 2 ^ 38) b (a * 512 / d) (r * 2 ^ 29) t (record { sum = moved a b (a * 512 / d) d r (whole b z) (div-add-mod' (a * 512) d); small = up b r d (whole b z) (mod-lt (a * 512) h.0) }) (e ∙ told r) h.1 h.2
+  where
+    whole : (b : ℕ) → b % 2 ^ 29 ≡ 0 → b ≡ b / 0x2000_0000 * 2 ^ 29
+    whole b h = omega arith
+
+    moved : (a b q d r : ℕ) → b ≡ d * 2 ^ 29 → q * d + r ≡ a * 512 → q * b + r * 2 ^ 29 ≡ a * 2 ^ 38
+    moved a b q d r h k = ap (λ (x : ℕ). q * x + r * 2 ^ 29) h ∙ common q d r ∙ ap (λ (x : ℕ). x * 2 ^ 29) k ∙ more a
+      where
+        common : (q d r : ℕ) → q * (d * 2 ^ 29) + r * 2 ^ 29 ≡ (q * d + r) * 2 ^ 29
+        common q d r = omega arith
+
+        more : (a : ℕ) → a * 512 * 2 ^ 29 ≡ a * 2 ^ 38
+        more a = omega arith
+
+    up : (b r d : ℕ) → b ≡ d * 2 ^ 29 → r < d → r * 2 ^ 29 < b
+    up b r d h l = omega arith
+
+    told : (r : ℕ) → sticky r ≡ sticky (r * 2 ^ 29)
+    told zero = refl
+    told (suc r) = sticky_some (suc r * 2 ^ 29) (some r)
+      where
+        some : (r : ℕ) → suc r * 2 ^ 29 ≡ 0 → ⊥
+        some r h = omega arith

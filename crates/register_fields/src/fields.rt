@@ -1,43 +1,48 @@
 // The fields of a data-processing word.
 ghost use Rattle.std.specs.Prelude.{◌≡◌, ◌<◌};
-ghost use Rattle.std.specs.Float.{binary32, binary64};
+ghost use Rattle.registers.specs.Registers.{reg_of};
 ghost use Rattle.register_fields.specs.Fields.{reg_d, reg_n, reg_m};
 
 use bits::field::bits;
+use registers::register::Register;
 use registers::registers::{Double, Single, dreg, sreg};
 
-pub fn single_d(op: u32) -> Single
-    ensures { (result.0 ≡ reg_d binary32 op) × (result.0 < 32) }
-{
-    sreg(bits(op, 12, 15), bits(op, 22, 22))
+// A register that a word names by four bits and an extra bit: a single has the extra bit lowest, a double highest.
+pub trait Named: Register {
+    fn named(four: u32, extra: u32) -> Self
+        requires { (four < 16) × (extra < 2) }
+        ensures { (Self.number result ≡ reg_of Self.Word.format four extra) × (Self.number result < 32) };
 }
 
-pub fn single_n(op: u32) -> Single
-    ensures { (result.0 ≡ reg_n binary32 op) × (result.0 < 32) }
-{
-    sreg(bits(op, 16, 19), bits(op, 7, 7))
+impl Named for Single {
+    fn named(four: u32, extra: u32) -> Single {
+        sreg(four, extra)
+    }
 }
 
-pub fn single_m(op: u32) -> Single
-    ensures { (result.0 ≡ reg_m binary32 op) × (result.0 < 32) }
-{
-    sreg(op % 16, bits(op, 5, 5))
+impl Named for Double {
+    fn named(four: u32, extra: u32) -> Double {
+        dreg(four, extra)
+    }
 }
 
-pub fn double_d(op: u32) -> Double
-    ensures { (result.0 ≡ reg_d binary64 op) × (result.0 < 32) }
+// The register d of a word, bits 15:12 and 22.
+pub fn d_of<R: Named>(op: u32) -> R
+    ensures { (R.number result ≡ reg_d R.Word.format op) × (R.number result < 32) }
 {
-    dreg(bits(op, 12, 15), bits(op, 22, 22))
+    R::named(bits(op, 12, 15), bits(op, 22, 22))
 }
 
-pub fn double_n(op: u32) -> Double
-    ensures { (result.0 ≡ reg_n binary64 op) × (result.0 < 32) }
+// The register n of a word, bits 19:16 and 7.
+pub fn n_of<R: Named>(op: u32) -> R
+    ensures { (R.number result ≡ reg_n R.Word.format op) × (R.number result < 32) }
 {
-    dreg(bits(op, 16, 19), bits(op, 7, 7))
+    R::named(bits(op, 16, 19), bits(op, 7, 7))
 }
 
-pub fn double_m(op: u32) -> Double
-    ensures { (result.0 ≡ reg_m binary64 op) × (result.0 < 32) }
+// The register m of a word, bits 3:0 and 5.
+pub fn m_of<R: Named>(op: u32) -> R
+    ensures { (R.number result ≡ reg_m R.Word.format op) × (R.number result < 32) }
 {
-    dreg(op % 16, bits(op, 5, 5))
+    R::named(op % 16, bits(op, 5, 5))
 }

@@ -1,6 +1,5 @@
 // The marks of registers. A double's number and a single's are two types, so that neither can stand for the other.
 ghost use Rattle.std.specs.Prelude.{◌≡◌, List, ℕ, ◌/◌, ◌%◌, ◌^◌, ◌<◌, eqb};
-ghost use Rattle.std.specs.Float.{binary32, binary64};
 ghost use Rattle.machine.specs.Place.{core};
 ghost use Rattle.registers.specs.Registers.{low_index, high_index};
 ghost use Rattle.meaning.specs.Map.{known, mark};
@@ -9,41 +8,54 @@ ghost use Rattle.register_marks.specs.Register.{known_in, mark_in, copy_in};
 
 use machine::place::CORE;
 use place_marks::place::{is_known, set_known};
+use registers::register::Register;
 use registers::registers::{Double, Single};
 
-pub fn single_known(marks: u64, x: Single) -> bool
-    ensures { (w : List ℕ) → result ≡ known_in binary32 (map_in marks w) x.0 }
-{
-    is_known(marks, x.0 % 32)
+// A register with its marks: a single has one, a double one for each of its words.
+pub trait MarkedRegister: Register {
+    // Whether all its words are known.
+    fn known(self, marks: u64) -> bool
+        ensures { (w : List ℕ) → result ≡ known_in Self.Word.format (map_in marks w) (Self.number self) };
+
+    // All its words marked alike.
+    fn mark(self, marks: u64, b: bool) -> u64
+        ensures { (w : List ℕ) → map_in result w ≡ mark_in Self.Word.format (map_in marks w) (Self.number self) b };
+
+    // The marks of m copied to d, word by word.
+    fn copy_marks(marks: u64, d: Self, m: Self) -> u64
+        ensures { (w : List ℕ) → map_in result w ≡ copy_in Self.Word.format (map_in marks w) (Self.number d) (Self.number m) };
 }
 
-pub fn mark_single(marks: u64, x: Single, b: bool) -> u64
-    ensures { (w : List ℕ) → map_in result w ≡ mark_in binary32 (map_in marks w) x.0 b }
-{
-    set_known(marks, x.0 % 32, b)
+impl MarkedRegister for Single {
+    fn known(self, marks: u64) -> bool {
+        is_known(marks, self.0 % 32)
+    }
+
+    fn mark(self, marks: u64, b: bool) -> u64 {
+        set_known(marks, self.0 % 32, b)
+    }
+
+    fn copy_marks(marks: u64, d: Single, m: Single) -> u64 {
+        d.mark(marks, m.known(marks))
+    }
 }
 
 // Both words at once: they are neighbours.
-pub fn double_known(marks: u64, x: Double) -> bool
-    ensures { (w : List ℕ) → result ≡ known_in binary64 (map_in marks w) x.0 }
-{
-    two_at(marks, x) == 3
-}
-
-pub fn mark_double(marks: u64, x: Double, b: bool) -> u64
-    ensures { (w : List ℕ) → map_in result w ≡ mark_in binary64 (map_in marks w) x.0 b }
-{
-    if b {
-        return with_two(marks, x, 3);
+impl MarkedRegister for Double {
+    fn known(self, marks: u64) -> bool {
+        two_at(marks, self) == 3
     }
-    with_two(marks, x, 0)
-}
 
-// Word by word.
-pub fn copy_double(marks: u64, d: Double, m: Double) -> u64
-    ensures { (w : List ℕ) → map_in result w ≡ copy_in binary64 (map_in marks w) d.0 m.0 }
-{
-    with_two(marks, d, two_at(marks, m))
+    fn mark(self, marks: u64, b: bool) -> u64 {
+        if b {
+            return with_two(marks, self, 3);
+        }
+        with_two(marks, self, 0)
+    }
+
+    fn copy_marks(marks: u64, d: Double, m: Double) -> u64 {
+        with_two(marks, d, two_at(marks, m))
+    }
 }
 
 // The marks of a double's low and high word, as a number of two bits.

@@ -1,5 +1,5 @@
 -- The two numberings of registers, and where a register's words stand among s0..s31.
-use Rattle.std.specs.Prelude.{ℕ, ◌+◌, ◌*◌, ◌%◌, ◌^◌}
+use Rattle.std.specs.Prelude.{ℕ, ◌+◌, ◌*◌, ◌/◌, ◌%◌, ◌^◌, List, get_or, set}
 use Rattle.std.specs.Float.{Format, binary32, binary64}
 
 -- V × 2 + extra bit, and extra bit × 16 + V
@@ -27,3 +27,17 @@ high_index n = (2 * n + 1) % 32
 -- the 64 bits of a double, of its low and its high word
 abbrev pub double_of : ℕ → ℕ → ℕ
 double_of low high = high * 2 ^ 32 + low
+
+-- registers in a bank
+abbrev pub bank_of : Format → ℕ
+bank_of binary32 = 8
+bank_of binary64 = 4
+
+-- the word of a register, among s0..s31, and these with another word in it
+abbrev pub value_in : Format → List ℕ → ℕ → ℕ
+value_in binary32 s n = get_or s (single_index n) 0
+value_in binary64 s n = double_of (get_or s (low_index n) 0) (get_or s (high_index n) 0)
+
+abbrev pub stored_in : Format → List ℕ → ℕ → ℕ → List ℕ
+stored_in binary32 s n v = set s (single_index n) v
+stored_in binary64 s n v = set (set s (low_index n) (v % 2 ^ 32)) (high_index n) (v / 2 ^ 32)

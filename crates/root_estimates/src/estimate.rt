@@ -1,7 +1,9 @@
 // An estimate of a root in whole numbers, and what it leaves.
 ghost use Rattle.std.specs.Prelude.{◌≡◌, ◌*◌, ◌/◌, ◌%◌, ◌^◌, ◌<◌, ◌≤◌};
-ghost use Rattle.roots.specs.Root.{IsEstimate, radicand};
+ghost use Rattle.std.specs.Float.Ieee.{prec};
+ghost use Rattle.roots.specs.Root.{IsEstimate, radicand, scaled};
 
+use floats::precision::Precision;
 use std::num::wrapping_sub_u64;
 
 // y is a normal value's 52 digits with the lowest bit of its exponent above them. The number whose root is looked for is 2 ^ 52 and the digits,
@@ -64,35 +66,39 @@ pub struct Estimate {
     pub near: bool,
 }
 
-// Of 24 digits, from a radicand and the inverse of its root.
-pub fn estimate24(x: u64, n: u64) -> Estimate
-    requires { (x < 2 ^ 54) × (n < 2 ^ 32) }
-    ensures { IsEstimate (x / 64) (2 ^ 24) result.root result.rest result.near }
-{
-    let q = x / 0x40_0000 * n / 0x40_0000_0000;
-    let rest = wrapping_sub_u64(x / 64, q * q);
-    Estimate {
-        root: q,
-        rest,
-        near: rest <= 5 * q + 6,
+// A width and the estimate of its roots, of as many digits as it keeps: from a radicand and the inverse of its root.
+pub trait Rooted: Precision {
+    fn estimate(x: u64, n: u64) -> Estimate
+        requires { (x < 2 ^ 54) × (n < 2 ^ 32) }
+        ensures { IsEstimate (scaled Self.format x) (2 ^ prec Self.format) result.root result.rest result.near };
+}
+
+impl Rooted for u32 {
+    fn estimate(x: u64, n: u64) -> Estimate {
+        let q = x / 0x40_0000 * n / 0x40_0000_0000;
+        let rest = wrapping_sub_u64(x / 64, q * q);
+        Estimate {
+            root: q,
+            rest,
+            near: rest <= 5 * q + 6,
+        }
     }
 }
 
-// The same of 53 digits: the first 27, h, and 26 more, l, from what h's square leaves. What is left is made in steps of 26 digits, each of which has to
-// be small, so that none is cut.
-pub fn estimate53(x: u64, n: u64) -> Estimate
-    requires { (x < 2 ^ 54) × (n < 2 ^ 32) }
-    ensures { IsEstimate (x * 2 ^ 52) (2 ^ 53) result.root result.rest result.near }
-{
-    let h = x / 0x40_0000 * n / 0x8_0000_0000;
-    let a = wrapping_sub_u64(x, h * h);
-    let l = a % 0x1_0000_0000 * n / 0x1_0000_0000;
-    let b = wrapping_sub_u64(a % 0x40_0000_0000 * 0x400_0000, 2 * h * l);
-    let rest = wrapping_sub_u64(b % 0x40_0000_0000 * 0x400_0000, l * l);
-    let q = h * 0x400_0000 + l;
-    Estimate {
-        root: q,
-        rest,
-        near: (a < 0x8000_0000) & (b < 0x8000_0000) & (rest <= 5 * q + 6),
+impl Rooted for u64 {
+    // The first 27 digits, h, and 26 more, l, from what h's square leaves. What is left is made in steps of 26 digits, each of which has to be small, so
+    // that none is cut.
+    fn estimate(x: u64, n: u64) -> Estimate {
+        let h = x / 0x40_0000 * n / 0x8_0000_0000;
+        let a = wrapping_sub_u64(x, h * h);
+        let l = a % 0x1_0000_0000 * n / 0x1_0000_0000;
+        let b = wrapping_sub_u64(a % 0x40_0000_0000 * 0x400_0000, 2 * h * l);
+        let rest = wrapping_sub_u64(b % 0x40_0000_0000 * 0x400_0000, l * l);
+        let q = h * 0x400_0000 + l;
+        Estimate {
+            root: q,
+            rest,
+            near: (a < 0x8000_0000) & (b < 0x8000_0000) & (rest <= 5 * q + 6),
+        }
     }
 }

@@ -4,28 +4,29 @@ use mathlib.Core.Logic.{◌⊎◌, inl, inr}
 use mathlib.Core.Bool.{Bool, true, false, ◌&&◌, cond}
 use Prim.Native.Nat.{Ordering}
 use Prim.Native.Nat.{ℕ, suc, ◌+◌, ◌-◌, ◌*◌, ◌/◌, ◌%◌, ◌^◌, ◌≤◌, ◌<◌}
-use native.Mathlib.Nat.{le_refl, le_trans, lt_trans, le_of_lt, lt_of_le_of_lt, lt_of_not-le, add_comm, le_of_suc-le-suc, mul-le-mul, mul-lt-mul_of_pos_right}
+use native.Mathlib.Nat.{le_refl, le_trans, mod-le, lt_trans, le_of_lt, lt_of_le_of_lt, lt_of_not-le, add_comm, le_of_suc-le-suc, mul-le-mul, mul-lt-mul_of_pos_right}
 use native.Mathlib.Decide.{dec_le, dec_lt}
 use native.Mathlib.Omega.{arith}
 use native.Mathlib.Numerals.{add-one}
 use lib.Dec.{leb, ltb, eqb, lit<}
-use lib.Ieee.{Format, binary32, binary64, prec, hid, ones, top, of_bits, nearest}
+use lib.Ieee.{Format, binary32, binary64, prec, low, hid, ones, top, of_bits, nan_bits, nearest}
 use borrow.Author.Tests.{lt-ltb, le-ltb, ltb-true, leb-true, eq-eqb, ne_eqb}
 use Rattle.rounding.specs.Rounding.{rounding_of}
 use Rattle.rounding.specs.declared.rounding.Rounding.{Rounding}
 use Rattle.rounding.specs.declared.rounding.Rounding.TheVariants.{Nearest, Up, Down, Zero}
 use Rattle.exceptions.specs.Exceptions.{inexact}
-use Rattle.roots.specs.Root.{isqrt, root_cut, radicand, IsRoot, IsRooted, IsSqrt, IsEstimate}
+use Rattle.roots.specs.Root.{isqrt, root_cut, base, radicand, scaled, IsRoot, IsRooted, IsSqrt, IsEstimate}
+use Rattle.nans.proofs.Choosing.{no_nan}
 use Rattle.rounding.proofs.Order.{compare_is}
 use Rattle.rounding.proofs.Cutting.{mode_up, mode_down, mode-zero}
 use Rattle.roots.proofs.RootDigits.{rounds, steps_exact}
-use Rattle.roots.proofs.Sqrt.{base, rise, shift, root_mid}
+use Rattle.roots.proofs.Sqrt.{rise, shift, root_mid}
 
 -- ---- the nearest whole number, by what is left of q's square
 
 module _ (n q r : ℕ) (sum : q * q + r ≡ n) where
-  low : r ≤ q → root_cut Nearest n 1 ≡ q
-  low h =
+  rounds_down : r ≤ q → root_cut Nearest n 1 ≡ q
+  rounds_down h =
       sym (rounds Nearest n q r (record { sum = sum; least = twice q r h }))
       ∙ ap (nearest q) (compare_is Ordering.lt (r * 2 * 2) (q * 4 + 1) (less q r h))
     where
@@ -35,8 +36,8 @@ module _ (n q r : ℕ) (sum : q * q + r ≡ n) where
       less : (q r : ℕ) → r ≤ q → r * 2 * 2 < q * 4 + 1
       less q r h = omega arith
 
-  high : q < r → r ≤ 2 * q → root_cut Nearest n 1 ≡ q + 1
-  high h l =
+  rounds_up : q < r → r ≤ 2 * q → root_cut Nearest n 1 ≡ q + 1
+  rounds_up h l =
       sym (rounds Nearest n q r (record { sum = sum; least = l }))
       ∙ ap (nearest q) (compare_is Ordering.gt (r * 2 * 2) (q * 4 + 1) (more q r h))
       ∙ sym (add-one q)
@@ -60,7 +61,7 @@ module _ (q rest : ℕ) where
   twice l = omega arith
 
   at_q : rest ≤ q → root_cut Nearest (q * q + rest) 1 ≡ q
-  at_q l = low (q * q + rest) q rest refl l
+  at_q l = rounds_down (q * q + rest) q rest refl l
 
   next : q < rest → rest ≤ 3 * q + 2 → root_cut Nearest (q * q + rest) 1 ≡ q + 1
   next l m = go (dec_le rest (2 * q))
@@ -69,8 +70,8 @@ module _ (q rest : ℕ) where
       small m = omega arith
 
       go : Dec (rest ≤ 2 * q) → root_cut Nearest (q * q + rest) 1 ≡ q + 1
-      go (yes k) = high (q * q + rest) q rest refl l k
-      go (no k) = low (q * q + rest) (q + 1) (rest - (2 * q + 1)) (once (lt_of_not-le k)) (small m)
+      go (yes k) = rounds_up (q * q + rest) q rest refl l k
+      go (no k) = rounds_down (q * q + rest) (q + 1) (rest - (2 * q + 1)) (once (lt_of_not-le k)) (small m)
 
   second : 3 * q + 2 < rest → rest ≤ 5 * q + 6 → root_cut Nearest (q * q + rest) 1 ≡ q + 2
   second l m = go (dec_le rest (4 * q + 3))
@@ -88,8 +89,8 @@ module _ (q rest : ℕ) where
       same = omega arith
 
       go : Dec (rest ≤ 4 * q + 3) → root_cut Nearest (q * q + rest) 1 ≡ q + 2
-      go (yes k) = high (q * q + rest) (q + 1) (rest - (2 * q + 1)) (once (past l).0) (past l).1 (small k) ∙ same
-      go (no k) = low (q * q + rest) (q + 2) (rest - (4 * q + 4)) (twice (lt_of_not-le k)) (least m)
+      go (yes k) = rounds_up (q * q + rest) (q + 1) (rest - (2 * q + 1)) (once (past l).0) (past l).1 (small k) ∙ same
+      go (no k) = rounds_down (q * q + rest) (q + 2) (rest - (4 * q + 4)) (twice (lt_of_not-le k)) (least m)
 
   pub near_is : (a b : ℕ) → rest ≤ 5 * q + 6 → a ≡ cond (ltb q rest) 1 0 → b ≡ cond (ltb (3 * q + 2) rest) 1 0 → q + (a + b) ≡ root_cut Nearest (q * q + rest) 1
   near_is a b h p d = go (bit_is a q rest p) (bit_is b (3 * q + 2) rest d)
@@ -370,11 +371,24 @@ normal : (f : Format) (b : ℕ) → hid f ≤ b → b < ones f * hid f → (b < 
 normal binary32 b h l = (omega arith, λ e. omega arith, λ e. omega arith)
 normal binary64 b h l = (omega arith, λ e. omega arith, λ e. omega arith)
 
+scaled_is : (f : Format) (x : ℕ) → scaled f x ≡ x * 2 ^ 10 * 2 ^ (prec f + prec f) / 2 ^ 64
+scaled_is binary32 x = omega arith
+scaled_is binary64 x = omega arith
+
+-- the word of a root's digits: half of the exponent, and the digits below it
+placed_is : (f : Format) (b kept : ℕ) → b < ones f * hid f → (b / hid f + b / hid f % 2 + (low f - prec f - 1)) * (hid f / 2) + kept ≡ ((b % top f / hid f + shift f) / 2 + base f) * hid f + kept
+placed_is binary32 b kept h = omega arith
+placed_is binary64 b kept h = omega arith
+
+-- a word below the infinity is no NaN
+pub below_nan : (f : Format) (b : ℕ) → b < ones f * hid f → nan_bits f b ≡ false
+below_nan f b h = no_nan f b (le_trans (mod-le b (top f)) (le_of_lt h))
+
 -- a normal value's word
-pub near_word : (mode : Rounding) (f : Format) (b y n kept r raised : ℕ) (x : Bool) → hid f ≤ b → b < ones f * hid f → y ≡ b % (2 * hid f) * 2 ^ rise f → n ≡ radicand y * 2 ^ 10 * 2 ^ (prec f + prec f) / 2 ^ 64
-    → kept ≡ root_cut mode n 1 → x ≡ eqb (isqrt n * isqrt n) n → r ≡ ((b % top f / hid f + shift f) / 2 + base f) * hid f + kept → raised ≡ cond x 0 inexact → IsSqrt mode f (of_bits f b) r raised
+pub near_word : (mode : Rounding) (f : Format) (b y n kept r raised : ℕ) (x : Bool) → hid f ≤ b → b < ones f * hid f → y ≡ b % (2 * hid f) * 2 ^ rise f → n ≡ scaled f (radicand y)
+    → kept ≡ root_cut mode n 1 → x ≡ eqb (isqrt n * isqrt n) n → r ≡ (b / hid f + b / hid f % 2 + (low f - prec f - 1)) * (hid f / 2) + kept → raised ≡ cond x 0 inexact → IsSqrt mode f (of_bits f b) r raised
 near_word mode f b y n kept r raised x h l e d k t w g =
     let u = normal f b h l in
-    let same = d ∙ ap (λ (z : ℕ). z * 2 ^ (prec f + prec f) / 2 ^ 64) (placed f b y l e) in
+    let same = d ∙ scaled_is f (radicand y) ∙ ap (λ (z : ℕ). z * 2 ^ (prec f + prec f) / 2 ^ 64) (placed f b y l e) in
     let is = root_mid mode f b (digits f b) kept x u.0 u.1 u.2 refl (k ∙ ap (λ (z : ℕ). root_cut mode z 1) same, t ∙ ap (λ (z : ℕ). eqb (isqrt z * isqrt z) z) same) in
-    record { bits_are = w ∙ is.bits_are; raised_is = g ∙ is.raised_is }
+    record { bits_are = w ∙ placed_is f b kept l ∙ is.bits_are; raised_is = g ∙ is.raised_is }

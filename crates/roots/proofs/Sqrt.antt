@@ -17,7 +17,7 @@ use lib.Ieee.Exact.{HasValue}
 use Rattle.rounding.specs.declared.rounding.Rounding.{Rounding}
 use Rattle.packing.specs.Pack.{ceiling}
 use Rattle.exceptions.specs.Exceptions.{invalid, inexact}
-use Rattle.roots.specs.Root.{isqrt, root_cut, root_of, sqrt_of, exact_root, sqrt_exceptions, IsSqrt}
+use Rattle.roots.specs.Root.{isqrt, root_cut, root_of, sqrt_of, exact_root, sqrt_exceptions, start, base, IsSqrt}
 use Rattle.rounding.specs.Lift.{Lifted}
 use Rattle.floats.proofs.Units.{prec_pos, slide, twice_hid, hid_pos, reads_low, reads_mid, reads_inf, reads_zero, reads_normal, field_le}
 use Rattle.rounding.proofs.Cutting.{move-le}
@@ -100,8 +100,9 @@ sqrt_of_zero mode f b h z =
       raised_is = sym (ap (sqrt_exceptions f) e);
     }
 
-pub raised_as : (mode : Rounding) (f : Format) (v : Float) (bits raised x : ℕ) → raised ≡ x → IsSqrt mode f v bits x → IsSqrt mode f v bits raised
-raised_as mode f v bits raised x e p = record { bits_are = p.bits_are; raised_is = e ∙ p.raised_is }
+-- a word and what it raised, handed on
+pub handed_on : {mode : Rounding} {f : Format} {v : Float} {bits raised b x : ℕ} → IsSqrt mode f v b x → (bits ≡ b) × (raised ≡ x) → IsSqrt mode f v bits raised
+handed_on p e = record { bits_are = e.0 ∙ p.bits_are; raised_is = e.1 ∙ p.raised_is }
 
 -- ---- the root of D * 2 ^ X of the smallest values. Its digits at the top of 53 places are m = D * 2 ^ r
 
@@ -193,13 +194,7 @@ module _ (f : Format) (D X r e j k m : ℕ) (m_is : m ≡ D * 2 ^ r) (least : 2 
       finite : k * hid f + root_cut mode A 1 < ones f * hid f
       finite = add_up (k * hid f) (hid f) (root_cut mode A 1) (2 ^ prec f) (ones f * hid f) (le_trans (le_of_eq (sym (add-mul k 3 (hid f)))) (mul-le-mul_right (hid f) room)) most (twice_hid f) (hid_pos f)
 
--- ---- by the fields. An exponent is counted so that none is below 0 and each half of it is whole.
-
-abbrev pub start : Format → ℕ
-start f = 52 + low f % 2
-
-abbrev pub base : Format → ℕ
-base f = (low f + 54 - 2 * prec f - start f) / 2
+-- ---- by the fields
 
 made_up : (f : Format) (r e : ℕ) → 54 ≤ r + (prec f + prec f) → r + (e % 2 + 10) + (prec f + prec f) ≡ r + e % 2 + (prec f + prec f) - 54 + 64
 made_up f r e h = go (prec f + prec f) h
@@ -297,3 +292,8 @@ root_mid mode f b m kept y h n o d k =
     counted : (f : Format) (x : ℕ) → (x ≡ 0 → ⊥) → x + shift f + rise f ≡ x - 1 + start f
     counted binary32 x n = omega arith
     counted binary64 x n = omega arith
+
+-- its digits have room
+pub normal_digits : (f : Format) (t : ℕ) → t < hid f → (hid f + t) * 2 ^ rise f % 2 ^ 64 ≡ (hid f + t) * 2 ^ rise f
+normal_digits binary32 t h = omega arith
+normal_digits binary64 t h = omega arith

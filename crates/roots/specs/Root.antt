@@ -1,8 +1,8 @@
 -- The square root of a format's value, rounded by whole-number squares. Assumes nothing.
 use Prim.Native.Nat.{ℕ, zero, suc, ◌+◌, ◌-◌, ◌*◌, ◌/◌, ◌%◌, ◌^◌, ◌≤◌, ◌<◌, compare}
 use Rattle.std.specs.Prelude.{◌≡◌, ◌⊎◌, Bool, true, false, cond, leb, ltb, eqb, Float}
-use Rattle.std.specs.Float.{nan, inf, fin, Format}
-use Rattle.std.specs.Float.Ieee.{low, up, down, size, of_bits, to_bits, nan_bits}
+use Rattle.std.specs.Float.{nan, inf, fin, Format, binary32, binary64}
+use Rattle.std.specs.Float.Ieee.{prec, low, up, down, size, of_bits, to_bits, nan_bits}
 use Rattle.floats.specs.Flush.{flush}
 use Rattle.nans.specs.Nan.{nan_of}
 use Rattle.exceptions.specs.Exceptions.{invalid, inexact, nan_exceptions}
@@ -73,6 +73,13 @@ root_exceptions f m = cond (nan_bits f m) (nan_exceptions f m m) (sqrt_exception
 
 -- ---- what the code's stages give
 
+-- where the exponent of lifted digits starts, and what is added to half of one: none is below 0 and each half is whole
+abbrev pub start : Format → ℕ
+start f = 52 + low f % 2
+
+abbrev pub base : Format → ℕ
+base f = (low f + 54 - 2 * prec f - start f) / 2
+
 -- a root's digits and what is left, of a number n
 pub record IsRoot (n root rest : ℕ) : Type 0 where
   pub sum : root * root + rest ≡ n
@@ -92,6 +99,11 @@ pub record IsSqrt (mode : Rounding) (f : Format) (v : Float) (bits raised : ℕ)
 -- 2 ^ 52 and the 52 digits of y, and twice that where the bit above them, the lowest of a normal value's exponent, is 0
 abbrev pub radicand : ℕ → ℕ
 radicand y = cond (ltb y (2 ^ 52)) (y * 2 + 2 ^ 53) y
+
+-- a radicand with as many digits as a format's root needs
+abbrev pub scaled : Format → ℕ → ℕ
+scaled binary32 x = x / 64
+scaled binary64 x = x * 2 ^ 52
 
 -- an estimate of the root of n, with what is left of n, where it is near: then the root is below q + 3
 pub record IsEstimate (n most q rest : ℕ) (near : Bool) : Type 0 where

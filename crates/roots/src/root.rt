@@ -1,11 +1,12 @@
 // Square roots on whole numbers, a binary digit at a time.
-ghost use Rattle.std.specs.Prelude.{◌≡◌, false, ◌+◌, ◌*◌, ◌/◌, ◌%◌, ◌≤◌, ◌<◌, ◌^◌};
-ghost use Rattle.std.specs.Float.{binary32, binary64};
-ghost use Rattle.std.specs.Float.Ieee.{of_bits, nan_bits};
-ghost use Rattle.roots.specs.Root.{IsRoot, IsRooted, IsSqrt};
+ghost use Rattle.std.specs.Prelude.{◌≡◌, false, cond, ◌+◌, ◌*◌, ◌/◌, ◌%◌, ◌≤◌, ◌<◌, ◌^◌};
+ghost use Rattle.std.specs.Float.Ieee.{hid, top, of_bits, nan_bits};
+ghost use Rattle.exceptions.specs.Exceptions.{inexact};
+ghost use Rattle.roots.specs.Root.{start, base, IsRoot, IsRooted, IsSqrt};
 
-use exceptions::exceptions::{INVALID, Raised32, Raised64, settled};
-use nans::nan::{DEFAULT_NAN32, DEFAULT_NAN64};
+use exceptions::exceptions::{Raised, no_result, settled, silent};
+use floats::parts::infinity;
+use floats::precision::Precision;
 use rounding::lift::lift;
 use rounding::rounding::{Rounded, Rounding, step};
 
@@ -65,87 +66,55 @@ fn rooted(mode: Rounding, m: u64, e: u64, steps: u64) -> Rounded
     step(mode, false, r.root, r.rest * 2, r.root * 4 + 1)
 }
 
-// The root of a single that is no NaN. A subnormal is moved up by its leading zeros.
-pub fn root32(mode: Rounding, b: u32) -> Raised32
-    requires { nan_bits binary32 b ≡ false }
-    ensures { IsSqrt mode binary32 (of_bits binary32 b) result.bits result.exceptions }
+// Where the exponents of the lifted digits start, and what is added to half of one. None is below 0 and each half is whole.
+fn start<W: Precision>() -> u64
+    ensures { result ≡ start W.format }
 {
-    let w = b as u64;
-    let field = w % 0x8000_0000 / 0x80_0000;
-    let t = w % 0x80_0000;
-    if w % 0x8000_0000 == 0 {
-        return Raised32 {
-            bits: b,
-            exceptions: 0,
-        };
-    }
-    if w >= 0x8000_0000 {
-        return Raised32 {
-            bits: DEFAULT_NAN32,
-            exceptions: INVALID,
-        };
-    }
-    if field == 255 {
-        return Raised32 {
-            bits: 0x7F80_0000,
-            exceptions: 0,
-        };
-    }
-    if field == 0 {
-        let up = lift(t);
-        let e = 53 - up;
-        let r = rooted(mode, t << up, e, 24);
-        return Raised32 {
-            bits: ((e / 2 + 51) * 0x80_0000 + r.kept) as u32,
-            exceptions: settled(r.exact, false, false),
-        };
-    }
-    let e = field + 23;
-    let r = rooted(mode, (0x80_0000 + t) * 0x2000_0000, e, 24);
-    Raised32 {
-        bits: ((e / 2 + 51) * 0x80_0000 + r.kept) as u32,
-        exceptions: settled(r.exact, false, false),
+    52 + W::PLACES % 2
+}
+
+fn base<W: Precision>() -> u64
+    ensures { result ≡ base W.format }
+{
+    (W::PLACES + 54 - 2 * W::DIGITS - start::<W>()) / 2
+}
+
+// The root's digits under half of the exponent e, and what rounding them raised.
+fn placed<W: Precision>(e: u64, digits: Rounded) -> Raised<W>
+    requires { (e / 2 + base W.format) * hid W.format + digits.kept < 2 * top W.format }
+    ensures { (W.number result.bits ≡ (e / 2 + base W.format) * hid W.format + digits.kept) × (result.exceptions ≡ cond digits.exact 0 inexact) }
+{
+    Raised {
+        bits: W::of_wide((e / 2 + base::<W>()) * W::LEAST + digits.kept),
+        exceptions: settled(digits.exact, false, false),
     }
 }
 
-// The root of a double.
-pub fn root64(mode: Rounding, b: u64) -> Raised64
-    requires { nan_bits binary64 b ≡ false }
-    ensures { IsSqrt mode binary64 (of_bits binary64 b) result.bits result.exceptions }
+// The root of a word that is no NaN. A subnormal is moved up by its leading zeros.
+pub fn root<W: Precision>(mode: Rounding, b: W) -> Raised<W>
+    requires { nan_bits W.format (W.number b) ≡ false }
+    ensures { IsSqrt mode W.format (of_bits W.format (W.number b)) (W.number result.bits) result.exceptions }
 {
-    let field = b % 0x8000_0000_0000_0000 / 0x10_0000_0000_0000;
-    let t = b % 0x10_0000_0000_0000;
-    if b % 0x8000_0000_0000_0000 == 0 {
-        return Raised64 {
-            bits: b,
-            exceptions: 0,
-        };
+    let w = b.wide();
+    let field = w % W::SIGN / W::LEAST;
+    let t = w % W::LEAST;
+    if w % W::SIGN == 0 {
+        return silent(b);
     }
-    if b >= 0x8000_0000_0000_0000 {
-        return Raised64 {
-            bits: DEFAULT_NAN64,
-            exceptions: INVALID,
-        };
+    if w >= W::SIGN {
+        return no_result();
     }
-    if field == 2047 {
-        return Raised64 {
-            bits: 0x7FF0_0000_0000_0000,
-            exceptions: 0,
-        };
+    if field == infinity::<W>() / W::LEAST {
+        return silent(W::of_wide(infinity::<W>()));
     }
     if field == 0 {
         let up = lift(t);
-        let e = 52 - up;
-        let r = rooted(mode, t << up, e, 53);
-        return Raised64 {
-            bits: (e / 2 + 485) * 0x10_0000_0000_0000 + r.kept,
-            exceptions: settled(r.exact, false, false),
-        };
+        let e = start::<W>() - up;
+        let r = rooted(mode, t << up, e, W::DIGITS);
+        return placed(e, r);
     }
-    let e = field + 51;
-    let r = rooted(mode, 0x10_0000_0000_0000 + t, e, 53);
-    Raised64 {
-        bits: (e / 2 + 485) * 0x10_0000_0000_0000 + r.kept,
-        exceptions: settled(r.exact, false, false),
-    }
+    let rise = 53 - W::DIGITS;
+    let e = field + (start::<W>() - 1 - rise);
+    let r = rooted(mode, (W::LEAST + t) << rise, e, W::DIGITS);
+    placed(e, r)
 }

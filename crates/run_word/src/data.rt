@@ -14,15 +14,16 @@ use super::word::Executed;
 use super::{Next, Stop};
 use bits::field::bit;
 use decode_table::table::number;
-use decoding::operation::{Operation, numbered};
+use decoding::operation::Operation;
 use machine::Controls;
 use processing::Processed;
-use scalars::arithmetic::{scalar_double, scalar_single};
-use unary_doubles::unary_double;
-use unary_singles::unary_single;
+use registers::registers::{Double, Single};
+use scalars::arithmetic::scalar;
+use scalars::unary::unary;
 use vfp::current_pc;
 
-// By the number of its operation. A scalar, where LEN is 0, needs none of the vectors' loops.
+// By the number of its operation: as an enum it misses the bar of speed, by a second jump (docs/DECISIONS.md, "Tried and left out"). A scalar, where LEN is 0,
+// needs none of the vectors' loops.
 pub(crate) fn process_data(
     table: &[u8; 1024],
     s: &mut [u32; 32],
@@ -35,22 +36,22 @@ pub(crate) fn process_data(
 {
     let n = number(table, op);
     if n == 0 {
-        return steps(s, r, x, numbered(n), op); // Undefined
+        return steps(s, r, x, Operation::from(n), op); // Undefined
     }
     let fpscr = x.fpscr;
     if fpscr / 0x1_0000 % 8 != 0 {
-        return steps(s, r, x, numbered(n), op);
+        return steps(s, r, x, Operation::from(n), op);
     }
     if n < 10 {
         if bit(op, 8) {
-            return done(x, scalar_double(s, fpscr, n, op));
+            return done(x, scalar::<Double>(s, fpscr, n, op));
         }
-        return done(x, scalar_single(s, fpscr, n, op));
+        return done(x, scalar::<Single>(s, fpscr, n, op));
     }
     if bit(op, 8) {
-        return done(x, unary_double(s, fpscr, op, numbered(n)));
+        return done(x, unary::<Double>(s, fpscr, op, Operation::from(n)));
     }
-    done(x, unary_single(s, fpscr, op, numbered(n)))
+    done(x, unary::<Single>(s, fpscr, op, Operation::from(n)))
 }
 
 // Any word, with its iterations.

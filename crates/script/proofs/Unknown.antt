@@ -6,16 +6,15 @@ use mathlib.Core.Bool.{Bool, true, false, cond}
 use mathlib.Core.List.{List, ◌∷◌}
 use lib.ListN.{drop, set}
 use lib.Seq.{drop-drop}
-use Rattle.numerals.specs.declared.number.Number.{Number}
-use Rattle.numerals.specs.declared.number.Number.TheVariants.{Value, Wrong}
-use Rattle.listing.specs.declared.line.Next.TheVariants as next
+use Rattle.numerals.specs.Number.{Number, Value, Wrong}
+use Rattle.listing.specs.Next as next
 use Rattle.listing.specs.declared.line.Expected.TheVariants as expected
 use Rattle.listing.specs.Line.{end_of, first_of, rest_of, blank, given, next_place}
 use Rattle.place_names.specs.Place.{place_of}
 use Rattle.tokens.specs.Token.{words_of}
 use Rattle.listing.proofs.Splitting.{words_none, words_one}
-use Rattle.script.specs.declared.item.Layout.{Layout}
-use Rattle.script.specs.declared.item.Step.TheVariants as step
+use Rattle.script.specs.Layout.{Layout}
+use Rattle.script.specs.Step as step
 use Rattle.script.specs.declared.mistake.Mistake.TheVariants.{Item, Beyond}
 use Rattle.machine.specs.Place.{before, place}
 use Rattle.meaning.specs.Map.{Map, mark}

@@ -4,15 +4,13 @@ use Rattle.machine.specs.Place.{before, place}
 use Rattle.limits.specs.Limit.{most_list, most_words, window_limit}
 use Rattle.layout.specs.State.{in_position}
 use Rattle.meaning.specs.Map.{Map, mark}
-use Rattle.listing.specs.declared.line.Item as listed
-use Rattle.listing.specs.declared.line.Item.TheVariants as item
+use Rattle.listing.specs.Item as item
 use Rattle.listing.specs.declared.line.Expected.TheVariants as expected
 use Rattle.listing.specs.Line.{given, item_of}
 use Rattle.place_names.specs.Place.{place_of, own_bits}
 use Rattle.tokens.specs.Token.{words_of}
-use Rattle.script.specs.declared.item.Layout.{Layout}
-use Rattle.script.specs.declared.item.Step.{Step}
-use Rattle.script.specs.declared.item.Step.TheVariants.{On, Wrong}
+use Rattle.script.specs.Layout.{Layout}
+use Rattle.script.specs.Step.{Step, On, Wrong}
 use Rattle.script.specs.declared.mistake.Mistake.TheVariants.{Item, Beyond, Words, Again, Refused}
 
 -- the words of the state and of the window, the map that their marks hold, and the list
@@ -80,7 +78,7 @@ window_step base words y =
     (Wrong (Refused (window_limit base words))))
 
 -- an item of a line
-unfoldable pub item_outcome : listed.Item → List ℕ → Layout → Buffers → Outcome
+unfoldable pub item_outcome : item.Item → List ℕ → Layout → Buffers → Outcome
 item_outcome item.Nothing l y b = outcome (On y) b
 item_outcome (item.Word x) l y b = word_outcome x y b
 item_outcome (item.Set p x) l y b = set_outcome p x y b

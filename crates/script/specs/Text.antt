@@ -1,11 +1,10 @@
 -- What a text comes to: its lines in turn, up to the first mistake.
 use Rattle.std.specs.Prelude.{ℕ, suc, false, List, [], ◌∷◌, take}
 use Rattle.tokens.specs.Token.{content_of, lines_of}
-use Rattle.script.specs.declared.item.Layout.{Layout}
-use Rattle.script.specs.declared.item.Step.{Step}
-use Rattle.script.specs.declared.item.Step.TheVariants as step
-use Rattle.script.specs.declared.text.Taken.{Taken}
-use Rattle.script.specs.declared.text.Taken.TheVariants.{All, Wrong}
+use Rattle.script.specs.Layout.{Layout}
+use Rattle.script.specs.Step.{Step}
+use Rattle.script.specs.Step as step
+use Rattle.script.specs.Taken.{Taken, All, Wrong}
 use Rattle.script.specs.Item.{Buffers, line_outcome}
 
 -- the layout, or the first mistake with its line's number, and the buffers

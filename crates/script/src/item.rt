@@ -6,63 +6,71 @@ ghost use Rattle.meaning.specs.Map.{Map, mark};
 ghost use Rattle.place_marks.specs.Word.{map_in};
 ghost use Rattle.place_names.specs.Place.{own_bits};
 ghost use Rattle.tokens.specs.Token.{words_of};
+ghost use Rattle.script.specs.Layout.{layout_of};
+ghost use Rattle.script.specs.Step.{told};
 ghost use Rattle.script.specs.Item.{buffers, outcome, is_place, store, put_at, word_outcome, set_outcome, unknown_outcome, window_step, line_outcome};
 
 use super::mistake::Mistake;
 use limits::limit::window_limit;
-use listing::line::{Expected, Item, Next, item_of, next_place};
+use listing::line::{Item, item_of, next_place};
 use machine::place::{CONTROL, EXCEPTIONS, FLAGS, NZCV, WINDOW, control_of};
 use place_marks::place::set_known;
 
-// The window's base and count of words, whether one was given, and the count of instruction words.
-#[derive(Clone, Copy)]
-pub struct Layout {
+// The window of memory: its base, and its count of words.
+#[derive(Clone, Copy, Debug, PartialEq, Eq)]
+pub struct Window {
     pub base: u32,
     pub words: usize,
-    pub given: bool,
+}
+
+// The window, if one was given, and the count of instruction words.
+#[derive(Clone, Copy, Debug, PartialEq, Eq)]
+pub struct Layout {
+    pub window: Option<Window>,
     pub count: usize,
 }
 
-// What a line comes to.
-#[derive(Clone, Copy)]
-pub enum Step {
-    On(Layout),
-    Wrong(Mistake),
-}
+impl Layout {
+    // The window's base, and 0 without a window.
+    pub fn base(self) -> u32
+        ensures { result ≡ (layout_of self).base }
+    {
+        match self.window {
+            Some(window) => window.base,
+            None => 0,
+        }
+    }
 
-fn index(x: u32) -> usize
-    ensures { result ≡ x }
-{
-    x as usize
+    // The window's count of words, and 0 without a window.
+    pub fn words(self) -> usize
+        ensures { result ≡ (layout_of self).words }
+    {
+        match self.window {
+            Some(window) => window.words,
+            None => 0,
+        }
+    }
 }
 
 // Whether there is a place of a number, where the window has so many words.
+#[tactic(auto, using(std::proofs::lemmas::Bool::Decides::nat_tests), unfolding(crate::specs::Item::is_place))]
 fn is_place(words: usize, p: usize) -> bool
     ensures { result ≡ is_place words p }
 {
-    if p < WINDOW {
-        return true;
-    }
-    p - WINDOW < words
+    p < WINDOW || p - WINDOW < words
 }
 
 // A place's bits as the state's word has them.
+#[tactic(auto, unfolding(machine::specs::Place::place))]
 fn in_position(p: usize, value: u32) -> u32
     ensures { result ≡ in_position (place p) (own_bits (place p) value) }
 {
-    if p == FLAGS {
-        return value % 16 * 0x1000_0000;
+    match p {
+        FLAGS | NZCV => value % 16 * 0x1000_0000,
+        CONTROL => control_of(value),
+        EXCEPTIONS => value % 32,
+        _ => value,
     }
-    if p == CONTROL {
-        return control_of(value);
-    }
-    if p == NZCV {
-        return value % 16 * 0x1000_0000;
-    }
-    if p == EXCEPTIONS {
-        return value % 32;
-    }
-    value
 }
 
 fn put_word(window: &mut [u32; 16384], i: usize, value: u32)
@@ -108,15 +116,15 @@ fn set_place(
     window: &mut [u32; 16384],
     p: usize,
     value: u32,
-) -> Step
-    ensures { (μ : Map) (l : List ℕ) → outcome result (buffers state.new μ window.new l) ≡ set_outcome p value layout (buffers state.old μ window.old l) }
+) -> Result<Layout, Mistake>
+    ensures { (μ : Map) (l : List ℕ) → outcome (told result) (buffers state.new μ window.new l) ≡ set_outcome p value (layout_of layout) (buffers state.old μ window.old l) }
 {
-    let words = layout.words;
+    let words = layout.words();
     if is_place(words, p) {
         put_place(state, window, p, value);
-        return Step::On(layout);
+        return Ok(layout);
     }
-    Step::Wrong(Mistake::Beyond(words))
+    Err(Mistake::Beyond(words))
 }
 
 // The places that a line names from a position on, up to the first mistake.
@@ -126,64 +134,49 @@ fn mark_all_unknown(
     window_marks: &mut [u8; 16384],
     line: &[u8],
     from: usize,
-) -> Step
-    ensures { (s w l : List ℕ) → outcome result (buffers s (map_in marks.new window_marks.new) w l) ≡ unknown_outcome (words_of (drop from line.now)) layout (buffers s (map_in marks.old window_marks.old) w l) }
+) -> Result<Layout, Mistake>
+    ensures { (s w l : List ℕ) → outcome (told result) (buffers s (map_in marks.new window_marks.new) w l) ≡ unknown_outcome (words_of (drop from line.now)) (layout_of layout) (buffers s (map_in marks.old window_marks.old) w l) }
 {
-    let words = layout.words;
+    let words = layout.words();
     let mut at = from;
-    loop {
-        let next = next_place(line, at);
-        match next {
-            Next::Place { place, from } => {
-                let p = index(place);
-                if !is_place(words, p) {
-                    return Step::Wrong(Mistake::Beyond(words));
-                }
-                mark_unknown(marks, window_marks, p);
-                at = from;
-            }
-            Next::End => {
-                return Step::On(layout);
-            }
-            Next::Mistake => {
-                return Step::Wrong(Mistake::Item(Expected::Place));
-            }
+    while let Some((place, after)) = next_place(line, at)? {
+        let p = place as usize;
+        if !is_place(words, p) {
+            return Err(Mistake::Beyond(words));
         }
+        mark_unknown(marks, window_marks, p);
+        at = after;
     }
+    Ok(layout)
 }
 
-fn set_window(layout: Layout, base: u32, words: usize) -> Step
-    ensures { result ≡ window_step base words layout }
+fn set_window(layout: Layout, base: u32, words: usize) -> Result<Layout, Mistake>
+    ensures { told result ≡ window_step base words (layout_of layout) }
 {
-    if layout.given {
-        return Step::Wrong(Mistake::Again);
+    if layout.window.is_some() {
+        return Err(Mistake::Again);
     }
-    let limit = window_limit(base, words);
-    if limit != 0 {
-        return Step::Wrong(Mistake::Refused(limit));
+    match window_limit(base, words) {
+        0 => Ok(Layout {
+            window: Some(Window { base, words }),
+            ..layout
+        }),
+        limit => Err(Mistake::Refused(limit)),
     }
-    Step::On(Layout {
-        base,
-        words,
-        given: true,
-        count: layout.count,
-    })
 }
 
-fn add_word(layout: Layout, list: &mut [u32; 4096], word: u32) -> Step
-    ensures { (s w : List ℕ) (μ : Map) → outcome result (buffers s μ w list.new) ≡ word_outcome word layout (buffers s μ w list.old) }
+fn add_word(layout: Layout, list: &mut [u32; 4096], word: u32) -> Result<Layout, Mistake>
+    ensures { (s w : List ℕ) (μ : Map) → outcome (told result) (buffers s μ w list.new) ≡ word_outcome word (layout_of layout) (buffers s μ w list.old) }
 {
     let n = layout.count;
-    if n < 4096 {
-        list[n] = word;
-        return Step::On(Layout {
-            base: layout.base,
-            words: layout.words,
-            given: layout.given,
-            count: n + 1,
-        });
+    if 4096 <= n {
+        return Err(Mistake::Words);
     }
-    Step::Wrong(Mistake::Words)
+    list[n] = word;
+    Ok(Layout {
+        count: n + 1,
+        ..layout
+    })
 }
 
 // A line, which has no comment and no line end.
@@ -195,16 +188,14 @@ pub fn take_line(
     window: &mut [u32; 16384],
     window_marks: &mut [u8; 16384],
     list: &mut [u32; 4096],
-) -> Step
-    ensures { outcome result (buffers state.new (map_in marks.new window_marks.new) window.new list.new) ≡ line_outcome line.now layout (buffers state.old (map_in marks.old window_marks.old) window.old list.old) }
+) -> Result<Layout, Mistake>
+    ensures { outcome (told result) (buffers state.new (map_in marks.new window_marks.new) window.new list.new) ≡ line_outcome line.now (layout_of layout) (buffers state.old (map_in marks.old window_marks.old) window.old list.old) }
 {
-    let item = item_of(line);
-    match item {
-        Item::Nothing => Step::On(layout),
+    match item_of(line)? {
+        Item::Nothing => Ok(layout),
         Item::Word(x) => add_word(layout, list, x),
-        Item::Set { place, value } => set_place(layout, state, window, index(place), value),
+        Item::Set { place, value } => set_place(layout, state, window, place as usize, value),
         Item::Unknown(from) => mark_all_unknown(layout, marks, window_marks, line, from),
-        Item::Window { base, count } => set_window(layout, base, index(count)),
-        Item::Mistake(e) => Step::Wrong(Mistake::Item(e)),
+        Item::Window { base, count } => set_window(layout, base, count as usize),
     }
 }

@@ -2,18 +2,13 @@
 ghost use Rattle.std.specs.Prelude.{◌≡◌};
 ghost use Rattle.place_marks.specs.Word.{map_in};
 ghost use Rattle.script.specs.Item.{buffers};
+ghost use Rattle.script.specs.Taken.{taken_as};
 ghost use Rattle.script.specs.Text.{reading, text_reading};
 
-use super::item::{Layout, Step, take_line};
-use super::mistake::Mistake;
+use super::item::{Layout, take_line};
+use super::mistake::MistakeAt;
 use machine::place::WINDOW;
 use tokens::token::{before, content};
-
-#[derive(Clone, Copy)]
-pub enum Taken {
-    All(Layout),
-    Wrong { line: usize, mistake: Mistake },
-}
 
 // The text's lines in turn, up to the first mistake.
 pub fn take(
@@ -23,41 +18,32 @@ pub fn take(
     window: &mut [u32; 16384],
     window_marks: &mut [u8; 16384],
     list: &mut [u32; 4096],
-) -> Taken
-    ensures { reading result (buffers state.new (map_in marks.new window_marks.new) window.new list.new) ≡ text_reading text.now (buffers state.old (map_in marks.old window_marks.old) window.old list.old) }
+) -> Result<Layout, MistakeAt>
+    ensures { reading (taken_as result) (buffers state.new (map_in marks.new window_marks.new) window.new list.new) ≡ text_reading text.now (buffers state.old (map_in marks.old window_marks.old) window.old list.old) }
 {
     let mut layout = Layout {
-        base: 0,
-        words: 0,
-        given: false,
+        window: None,
         count: 0,
     };
     let mut line: usize = 1;
     let mut at: usize = 0;
     while at < text.len() {
-        let rest = &text[at..];
-        let n = before(rest, b'\n');
-        let whole = &rest[..n];
-        let k = content(whole);
+        let whole = before(&text[at..], b'\n');
         let step = take_line(
             layout,
-            &whole[..k],
+            content(whole),
             state,
             marks,
             window,
             window_marks,
             list,
         );
-        match step {
-            Step::On(next) => {
-                layout = next;
-            }
-            Step::Wrong(mistake) => {
-                return Taken::Wrong { line, mistake };
-            }
-        }
-        at = at + n + 1;
+        layout = match step {
+            Ok(next) => next,
+            Err(mistake) => return Err(MistakeAt { line, mistake }),
+        };
+        at += whole.len() + 1;
         line += 1;
     }
-    Taken::All(layout)
+    Ok(layout)
 }

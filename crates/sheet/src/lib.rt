@@ -8,7 +8,7 @@ ghost use Rattle.sheet.specs.Sheet.{line_of, reply, laid_out};
 
 use machine::Machine;
 use numerals::number::write_digits;
-use register_marks::register::single_known;
+use register_marks::register::MarkedRegister;
 use registers::registers::{Double, Single, Words, get_words};
 
 // 16 lines of 40 characters and a line feed.
@@ -47,8 +47,8 @@ fn double_line(s: &[u32; 32], marks: u64, n: usize) -> [u8; 41]
     ensures { (w : List ℕ) → result ≡ line_text (line_of s.now (map_in marks w) n) }
 {
     let words = get_words(s, Double(n));
-    let high_known = single_known(marks, Single(2 * n + 1));
-    let low_known = single_known(marks, Single(2 * n));
+    let high_known = Single(2 * n + 1).known(marks);
+    let low_known = Single(2 * n).known(marks);
     line(n as u32, words, high_known, low_known)
 }
 

@@ -7,7 +7,8 @@ use native.Mathlib.Decide.{ℕ_discrete}
 use lib.Dec.{ltb}
 use lib.Ieee.{Format}
 use borrow.Author.Tests.{ltb-true, ltb-false, le-ltb}
-use Rattle.short_vectors.specs.Vector.{precision, bank_of, iterations_of}
+use Rattle.short_vectors.specs.Vector.{precision, iterations_of}
+use Rattle.registers.specs.Registers.{bank_of}
 
 -- a number that is 0 below the bank and 1 from it on
 tested : (d bank n : ℕ) → (d < bank → n ≡ 0) → (bank ≤ d → n ≡ 1) → n ≡ cond (ltb d bank) 0 1

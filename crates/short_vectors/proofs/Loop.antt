@@ -11,7 +11,8 @@ use borrow.Author.Tests.{le-ltb, ltb-false}
 use Rattle.meaning.specs.Step.{Step}
 use Rattle.meaning.proofs.Laws.{after_none, after_one}
 use Rattle.short_vectors.specs.declared.vector.Vector.{Vector}
-use Rattle.short_vectors.specs.Vector.{bank_of, iterations_of, stride_of, step_of, second_of, Vectored, Steppable}
+use Rattle.short_vectors.specs.Vector.{iterations_of, stride_of, step_of, second_of, Vectored, Steppable}
+use Rattle.registers.specs.Registers.{bank_of}
 use Rattle.short_vectors.specs.Register.{Stepped, SteppedWith, Iterated, IteratedWith}
 
 bank_some : (f : Format) → 0 < bank_of f

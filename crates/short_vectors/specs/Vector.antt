@@ -1,6 +1,7 @@
 -- Short vectors: how many iterations a stepping word makes, and which registers each uses. c is FPSCR 27:5.
 use Rattle.std.specs.Prelude.{◌≡◌, ℕ, ◌+◌, ◌*◌, ◌/◌, ◌%◌, ◌^◌, ◌<◌, ◌≤◌, Bool, true, false, cond, eqb, ltb}
 use Rattle.std.specs.Float.{Format, binary32, binary64}
+use Rattle.registers.specs.Registers.{bank_of}
 use Rattle.meaning.specs.Step.{Step}
 use Rattle.short_vectors.specs.declared.vector.Vector.{Vector}
 
@@ -8,11 +9,6 @@ use Rattle.short_vectors.specs.declared.vector.Vector.{Vector}
 abbrev pub precision : Bool → Format
 precision true = binary64
 precision false = binary32
-
--- registers in a bank
-abbrev pub bank_of : Format → ℕ
-bank_of binary32 = 8
-bank_of binary64 = 4
 
 -- one iteration where d is in bank 0, else LEN + 1
 abbrev pub iterations_of : Format → ℕ → ℕ → ℕ

@@ -1,6 +1,9 @@
 // How many iterations a word makes, and the registers of each.
 ghost use Rattle.std.specs.Prelude.{◌≡◌, cond, ltb, ◌≤◌};
-ghost use Rattle.short_vectors.specs.Vector.{precision, bank_of, stride_of, step_of, second_of, Vectored, Steppable};
+ghost use Rattle.short_vectors.specs.Vector.{stride_of, step_of, second_of, Vectored, Steppable};
+ghost use Rattle.registers.specs.Registers.{bank_of};
+
+use registers::register::Register;
 
 #[derive(Clone, Copy)]
 pub struct Vector {
@@ -10,15 +13,16 @@ pub struct Vector {
 }
 
 impl Vector {
-    pub fn new(control: u32, double: bool, destination: usize) -> Vector
-        ensures { Vectored (precision double) control destination result }
+    // Over registers of either precision, from the destination.
+    pub fn new<R: Register>(control: u32, destination: R) -> Vector
+        ensures { Vectored R.Word.format control (R.number destination) result }
     {
         let more = (control / 0x1_0000 % 8) as usize;
-        let steps = beyond(destination, double);
+        let steps = beyond(destination);
         Vector {
             iterations: 1 + more * steps,
             stride: stride_of(control),
-            bank: bank_of(double),
+            bank: R::BANK,
         }
     }
 
@@ -44,28 +48,19 @@ impl Vector {
     }
 }
 
-// 1 for a register beyond bank 0, else 0. It is reckoned and not tested: a branch on it is mispredicted where a program uses both.
-fn beyond(register: usize, double: bool) -> usize
-    ensures { (result ≡ cond (ltb register (bank_of (precision double))) 0 1) × (result ≤ 1) }
-{
-    if register >= 32 {
-        return 1;
-    }
-    if double {
-        return (register / 4 + 7) / 8;
-    }
-    (register / 8 + 7) / 8
-}
-
-// Registers in a bank.
-fn bank_of(double: bool) -> usize
-    ensures { result ≡ bank_of (precision double) }
-{
-    if double { 4 } else { 8 }
-}
-
 fn stride_of(control: u32) -> usize
     ensures { result ≡ stride_of control }
 {
     if control / 0x10_0000 % 4 == 3 { 2 } else { 1 }
+}
+
+// 1 for a register beyond bank 0, else 0. It is reckoned and not tested: a branch on it is mispredicted where a program uses both.
+fn beyond<R: Register>(register: R) -> usize
+    ensures { (result ≡ cond (ltb (R.number register) (bank_of R.Word.format)) 0 1) × (result ≤ 1) }
+{
+    let n = register.index();
+    if n >= 32 {
+        return 1;
+    }
+    (n / R::BANK + 7) / 8
 }

@@ -9,7 +9,7 @@ ghost use Rattle.sources.specs.Source.{Picks};
 
 use machine::place::CONTROL;
 use place_marks::place::is_known;
-use register_marks::register::double_known;
+use register_marks::register::MarkedRegister;
 use registers::registers::{Double, Single};
 
 pub fn of_double(marks: u64, x: Double) -> u32
@@ -36,7 +36,7 @@ pub fn of_singles(marks: u64, a: Single, b: Single) -> u32
 pub fn of_doubles(marks: u64, a: Double, b: Double) -> u32
     ensures { Picks marks (words_of binary64 (a.0 ∷ b.0 ∷ [])) result × Picks marks (words_of binary64 (a.0 ∷ [])) result }
 {
-    if double_known(marks, a) {
+    if a.known(marks) {
         return of_double(marks, b);
     }
     of_double(marks, a)
@@ -56,7 +56,7 @@ pub fn of_single_operands(marks: u64, d: Single, n: Single, m: Single) -> u32
 pub fn of_double_operands(marks: u64, d: Double, n: Double, m: Double) -> u32
     ensures { (kind : Arithmetic) → Picks marks (words_of binary64 (operands kind d.0 n.0 m.0)) result }
 {
-    if double_known(marks, n) {
+    if n.known(marks) {
         return of_doubles(marks, m, d);
     }
     of_double(marks, n)

@@ -20,7 +20,8 @@ use Rattle.sign_steps.specs.declared.sign.SignOperation.{SignOperation}
 use Rattle.sign_steps.specs.Sign.{sign_step}
 use Rattle.root_steps.specs.Root.{root_step}
 use Rattle.short_vectors.specs.declared.vector.Vector.{Vector}
-use Rattle.short_vectors.specs.Vector.{bank_of, stride_of, step_of, second_of, precision, iterations_of, Vectored, Steppable}
+use Rattle.short_vectors.specs.Vector.{stride_of, step_of, second_of, precision, iterations_of, Vectored, Steppable}
+use Rattle.registers.specs.Registers.{bank_of}
 use Rattle.register_fields.specs.Fields.{reg_d, reg_n, reg_m}
 use Rattle.decoding.specs.Operation.{operation_numbered, arithmetic_of}
 use Rattle.chains.specs.Chain.{Pair}

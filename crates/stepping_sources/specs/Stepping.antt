@@ -2,7 +2,8 @@
 use Rattle.std.specs.Prelude.{ℕ, ◌-◌, ◌<◌, ◌≡◌, cond, List, [], ◌∷◌, ltb, get_or, length}
 use Rattle.std.specs.Float.{Format}
 use Rattle.meaning.specs.Step.{Step, Act, after_marks}
-use Rattle.short_vectors.specs.Vector.{bank_of, stride_of, step_of, second_of, iterations_of}
+use Rattle.short_vectors.specs.Vector.{stride_of, step_of, second_of, iterations_of}
+use Rattle.registers.specs.Registers.{bank_of}
 use Rattle.arithmetic_steps.specs.Arithmetic.{arithmetic_step}
 use Rattle.sign_steps.specs.Sign.{sign_step}
 use Rattle.root_steps.specs.Root.{root_step}

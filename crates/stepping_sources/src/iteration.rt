@@ -1,4 +1,5 @@
-// One iteration of a stepping word, by the number of its operation: 1 to 9 are arithmetic, 10 to 12 moves and sign changes, 13 is the root.
+// One iteration of a stepping word, by the number of its operation, which is what `step_by` is of: 1 to 9 are arithmetic, 10 to 12 moves and sign changes, 13
+// is the root.
 ghost use Rattle.std.specs.Prelude.{ℕ, ◌<◌, ◌≤◌};
 ghost use Rattle.register_fields.specs.Fields.{reg_d, reg_n, reg_m};
 ghost use Rattle.short_vectors.specs.Vector.{precision};
@@ -6,11 +7,11 @@ ghost use Rattle.processing_marks.specs.Marked.{MarksStepped};
 ghost use Rattle.sources.specs.Source.{Tracing};
 ghost use Rattle.stepping_sources.specs.Stepping.{step_by};
 
-use arithmetic_marks::arithmetic::{mark_sum_double, mark_sum_single};
-use decoding::operation::{arithmetic_of, numbered};
-use register_fields::fields::{double_d, double_m, double_n, single_d, single_m, single_n};
+use arithmetic_marks::arithmetic::mark_sum;
+use decoding::operation::{Operation, arithmetic_of};
+use register_fields::fields::{d_of, m_of, n_of};
 use registers::registers::{Double, Single};
-use root_marks::root::{mark_root_double, mark_root_single};
+use root_marks::root::mark_root;
 use sources::Source;
 use step_sources::step::{
     arithmetic_double, arithmetic_single, root_double, root_single, sign_double, sign_single,
@@ -21,9 +22,9 @@ pub(crate) fn named_source(marks: u64, double: bool, n: u8, op: u32, q: u32) -> 
     ensures { (control : ℕ) → Tracing (step_by (precision double) control n (reg_d (precision double) op) (reg_n (precision double) op) (reg_m (precision double) op)) marks q result }
 {
     if double {
-        let d = double_d(op);
-        let a = double_n(op);
-        let b = double_m(op);
+        let d = d_of::<Double>(op);
+        let a = n_of::<Double>(op);
+        let b = m_of::<Double>(op);
         if n < 10 {
             return arithmetic_double(marks, d, a, b, q);
         }
@@ -32,9 +33,9 @@ pub(crate) fn named_source(marks: u64, double: bool, n: u8, op: u32, q: u32) -> 
         }
         return root_double(marks, d, b, q);
     }
-    let d = single_d(op);
-    let a = single_n(op);
-    let b = single_m(op);
+    let d = d_of::<Single>(op);
+    let a = n_of::<Single>(op);
+    let b = m_of::<Single>(op);
     if n < 10 {
         return arithmetic_single(marks, d, a, b, q);
     }
@@ -83,14 +84,14 @@ pub(crate) fn marks_by(marks: u64, double: bool, n: u8, d: usize, a: usize, b: u
     ensures { (control : ℕ) → (10 ≤ n → 13 ≤ n) → MarksStepped (step_by (precision double) control n d a b) marks result }
 {
     if n < 10 {
-        let kind = arithmetic_of(numbered(n));
+        let kind = arithmetic_of(Operation::from(n));
         if double {
-            return mark_sum_double(marks, kind, Double(d), Double(a), Double(b));
+            return mark_sum(marks, kind, Double(d), Double(a), Double(b));
         }
-        return mark_sum_single(marks, kind, Single(d), Single(a), Single(b));
+        return mark_sum(marks, kind, Single(d), Single(a), Single(b));
     }
     if double {
-        return mark_root_double(marks, Double(d), Double(b));
+        return mark_root(marks, Double(d), Double(b));
     }
-    mark_root_single(marks, Single(d), Single(b))
+    mark_root(marks, Single(d), Single(b))
 }

@@ -1,13 +1,14 @@
 // Back through the iterations of a stepping word: the marks before each are made anew, and then the iterations are walked back.
 ghost use Rattle.std.specs.Prelude.{◌≡◌, ℕ, ◌+◌, ◌*◌, ◌<◌, ◌≤◌, length};
 ghost use Rattle.register_fields.specs.Fields.{reg_d, reg_n, reg_m};
-ghost use Rattle.short_vectors.specs.Vector.{precision, iterations_of};
+ghost use Rattle.short_vectors.specs.Vector.{precision, iterations_of, Vectored};
 ghost use Rattle.links.specs.Walked.{WalkedAct};
 ghost use Rattle.stepping_sources.specs.Stepping.{stepping_act, Befores};
 
 use super::iteration::{marks_by, move_by, number_by};
 use links::{Back, link};
-use register_fields::fields::{double_d, double_m, double_n, single_d, single_m, single_n};
+use register_fields::fields::{d_of, m_of, n_of};
+use registers::registers::{Double, Single};
 use short_vectors::vector::Vector;
 
 // How many iterations a stepping word makes.
@@ -15,13 +16,23 @@ pub(crate) fn iterations_of(control: u32, double: bool, op: u32) -> usize
     ensures { result ≡ iterations_of (precision double) control (reg_d (precision double) op) }
 {
     if double {
-        let d = double_d(op);
-        let vector = Vector::new(control, true, d.0);
+        let d = d_of::<Double>(op);
+        let vector = Vector::new(control, d);
         return vector.iterations;
     }
-    let d = single_d(op);
-    let vector = Vector::new(control, false, d.0);
+    let d = d_of::<Single>(op);
+    let vector = Vector::new(control, d);
     vector.iterations
+}
+
+// The vector from a register, by the precision.
+fn vector_from(control: u32, double: bool, d: usize) -> Vector
+    ensures { Vectored (precision double) control d result }
+{
+    if double {
+        return Vector::new(control, Double(d));
+    }
+    Vector::new(control, Single(d))
 }
 
 // A stepping word, by the registers that it names.
@@ -40,14 +51,14 @@ pub(crate) fn vector_back(
     ensures { WalkedAct (stepping_act (precision double) control n (reg_d (precision double) op) (reg_n (precision double) op) (reg_m (precision double) op)) index marks q k pairs.old pairs.new result }
 {
     if double {
-        let d = double_d(op);
-        let a = double_n(op);
-        let b = double_m(op);
+        let d = d_of::<Double>(op);
+        let a = n_of::<Double>(op);
+        let b = m_of::<Double>(op);
         return registers_back(marks, control, true, n, d.0, a.0, b.0, q, index, pairs, k);
     }
-    let d = single_d(op);
-    let a = single_n(op);
-    let b = single_m(op);
+    let d = d_of::<Single>(op);
+    let a = n_of::<Single>(op);
+    let b = m_of::<Single>(op);
     registers_back(marks, control, false, n, d.0, a.0, b.0, q, index, pairs, k)
 }
 
@@ -74,7 +85,7 @@ fn registers_back(
         }
     }
     let before = marks_before(marks, control, double, n, d, a, b);
-    let vector = Vector::new(control, double, d);
+    let vector = vector_from(control, double, d);
     let mut place = q;
     let mut count = k;
     let mut j = vector.iterations;
@@ -112,7 +123,7 @@ fn marks_before(
     requires { (d < 32) × (a < 32) × (b < 32) × (10 ≤ n → 13 ≤ n) }
     ensures { Befores (precision double) control n d a b marks result }
 {
-    let vector = Vector::new(control, double, d);
+    let vector = vector_from(control, double, d);
     let count = vector.iterations;
     let mut before = [marks; 8];
     let mut i: usize = 1;
@@ -145,7 +156,7 @@ fn moves_back(
     requires { (d < 32) × (b < 32) × (2 * (k + 8) ≤ length pairs.old) }
     ensures { (n a marks : ℕ) → 10 ≤ n → n < 13 → WalkedAct (stepping_act (precision double) control n d a b) index marks q k pairs.old pairs.new result }
 {
-    let vector = Vector::new(control, double, d);
+    let vector = vector_from(control, double, d);
     let mut place = q;
     let mut count = k;
     let mut j = vector.iterations;

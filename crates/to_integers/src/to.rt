@@ -1,11 +1,31 @@
 // Floats as integers' words, by integer work on the bits.
 ghost use Rattle.std.specs.Prelude.{◌≡◌};
-ghost use Rattle.std.specs.Float.{binary32, binary64};
+ghost use Rattle.std.specs.Float.{binary64};
+ghost use Rattle.std.specs.Float.Ieee.{of_bits};
 ghost use Rattle.integers.specs.Integer.{clamped, to_integer, outside, clamped_exceptions, to_integer_exceptions};
 
-use exceptions::exceptions::{INVALID, Raised32, settled};
+use exceptions::exceptions::{INVALID, Raised, settled};
+use floats::precision::Precision;
 use rounding::rounding::{Rounding, cut, least};
 use widths::convert::widen;
+
+// A width whose words become integers as the double of the same value does. A single is widened, which loses nothing.
+pub trait ToInteger: Precision {
+    fn as_double(self) -> u64
+        ensures { of_bits binary64 result ≡ of_bits Self.format (Self.number self) };
+}
+
+impl ToInteger for u32 {
+    fn as_double(self) -> u64 {
+        widen(0, self).bits
+    }
+}
+
+impl ToInteger for u64 {
+    fn as_double(self) -> u64 {
+        self
+    }
+}
 
 // A whole number of the given sign as a word, brought to the nearest end of the range.
 fn clamp(signed: bool, negative: bool, n: u64) -> u32
@@ -40,23 +60,23 @@ fn is_outside(signed: bool, negative: bool, n: u64) -> bool
 }
 
 // The word, and what it raises: a size outside the range is invalid, and not inexact.
-fn clamp_raised(signed: bool, negative: bool, n: u64, exact: bool) -> Raised32
+fn clamp_raised(signed: bool, negative: bool, n: u64, exact: bool) -> Raised<u32>
     ensures { (result.bits ≡ clamped signed negative n) × (result.exceptions ≡ clamped_exceptions signed negative n exact) }
 {
     if is_outside(signed, negative, n) {
-        return Raised32 {
+        return Raised {
             bits: clamp(signed, negative, n),
             exceptions: INVALID,
         };
     }
-    Raised32 {
+    Raised {
         bits: clamp(signed, negative, n),
         exceptions: settled(exact, false, false),
     }
 }
 
 // A double's bits as an integer's word.
-pub fn to_integer64(mode: Rounding, signed: bool, b: u64) -> Raised32
+fn double_to_integer(mode: Rounding, signed: bool, b: u64) -> Raised<u32>
     ensures { (result.bits ≡ to_integer binary64 mode signed b) × (result.exceptions ≡ to_integer_exceptions binary64 mode signed b) }
 {
     let negative = b >= 0x8000_0000_0000_0000;
@@ -66,7 +86,7 @@ pub fn to_integer64(mode: Rounding, signed: bool, b: u64) -> Raised32
         if t == 0 {
             return clamp_raised(signed, negative, 0x1_0000_0000, true);
         }
-        return Raised32 {
+        return Raised {
             bits: 0,
             exceptions: INVALID,
         };
@@ -83,10 +103,9 @@ pub fn to_integer64(mode: Rounding, signed: bool, b: u64) -> Raised32
     clamp_raised(signed, negative, c.kept, c.exact)
 }
 
-// A single's word as an integer's word: it is first widened, which loses nothing. A NaN is invalid as a double, signalling or not.
-pub fn to_integer32(mode: Rounding, signed: bool, b: u32) -> Raised32
-    ensures { (result.bits ≡ to_integer binary32 mode signed b) × (result.exceptions ≡ to_integer_exceptions binary32 mode signed b) }
+// A word as an integer's word. A NaN is invalid, signalling or not.
+pub fn to_integer<W: ToInteger>(mode: Rounding, signed: bool, b: W) -> Raised<u32>
+    ensures { (result.bits ≡ to_integer W.format mode signed (W.number b)) × (result.exceptions ≡ to_integer_exceptions W.format mode signed (W.number b)) }
 {
-    let x = widen(0, b);
-    to_integer64(mode, signed, x.bits)
+    double_to_integer(mode, signed, b.as_double())
 }

@@ -1,5 +1,5 @@
 -- The words of a line.
-use Rattle.std.specs.Prelude.{ℕ, suc, ◌-◌, Bool, true, cond, List, [], ◌∷◌, eqb, ltb, length, get_or}
+use Rattle.std.specs.Prelude.{ℕ, suc, ◌-◌, Bool, true, cond, List, [], ◌∷◌, eqb, ltb, length, get_or, drop}
 use Rattle.std.specs.Bool.{beq}
 
 -- how many bytes stand before the first b
@@ -22,6 +22,10 @@ is_gap b = cond (eqb b 32) true (eqb b 9)
 unfoldable pub leading_of : Bool → List ℕ → ℕ
 leading_of g [] = 0
 leading_of g (x ∷ xs) = cond (beq (is_gap x) g) (suc (leading_of g xs)) 0
+
+-- a line from its first word on
+abbrev pub from_word : List ℕ → List ℕ
+from_word l = drop (leading_of true l) l
 
 -- a byte in front of the first of some texts
 abbrev pub onto : ℕ → List (List ℕ) → List (List ℕ)

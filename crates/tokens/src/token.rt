@@ -1,74 +1,47 @@
 // Where the lines of a text end, and where the words of a line stand.
-ghost use Rattle.std.specs.Prelude.{◌≡◌, true, false, ◌+◌, ◌≤◌, length, drop};
-ghost use Rattle.tokens.specs.Token.{before_of, content_of, is_gap, leading_of};
+ghost use Rattle.std.specs.Prelude.{◌≡◌, false, ◌≤◌, length, take, drop};
+ghost use Rattle.tokens.specs.Token.{before_of, content_of, is_gap, leading_of, from_word};
 
-// A word of a line: from start up to end. Both are the same where there is none.
-#[derive(Clone, Copy)]
-pub struct Token {
-    pub start: usize,
-    pub end: usize,
+// What stands before the first b: all of a text that has none.
+pub fn before(text: &[u8], b: u8) -> &[u8]
+    ensures { result.now ≡ take (before_of b text.now) text.now }
+{
+    let end = text.iter().position(|&x| x == b).unwrap_or(text.len());
+    &text[..end]
 }
 
-// How many bytes stand before the first b.
-pub fn before(text: &[u8], b: u8) -> usize
-    ensures { (result ≤ length text.now) × (result ≡ before_of b text.now) }
+// What counts of a line: what stands before a comment, without the carriage return at its end.
+pub fn content(line: &[u8]) -> &[u8]
+    ensures { result.now ≡ take (content_of line.now) line.now }
 {
-    let mut i: usize = 0;
-    while i < text.len() {
-        if text[i] == b {
-            return i;
-        }
-        i += 1;
+    let text = before(line, b'#');
+    if text.len() < line.len() {
+        return text;
     }
-    i
-}
-
-// How much of a line counts: what stands before a comment, without the carriage return at its end.
-pub fn content(line: &[u8]) -> usize
-    ensures { (result ≤ length line.now) × (result ≡ content_of line.now) }
-{
-    let n = before(line, b'#');
-    if n < line.len() {
-        return n;
-    }
-    if n == 0 {
-        return 0;
-    }
-    if line[n - 1] == b'\r' {
-        return n - 1;
-    }
-    n
+    line.strip_suffix(b"\r").unwrap_or(line)
 }
 
 // Spaces and tabs stand between words.
 fn gap(b: u8) -> bool
     ensures { result ≡ is_gap b }
 {
-    if b == b' ' {
-        return true;
-    }
-    b == b'\t'
+    b == b' ' || b == b'\t'
 }
 
 // How many bytes of a line are gaps before the first that is none, or the other way round.
 fn leading(line: &[u8], gaps: bool) -> usize
     ensures { (result ≤ length line.now) × (result ≡ leading_of gaps line.now) }
 {
-    let mut i: usize = 0;
-    while i < line.len() {
-        if gap(line[i]) != gaps {
-            return i;
-        }
-        i += 1;
-    }
-    i
+    line.iter()
+        .position(|&b| gap(b) != gaps)
+        .unwrap_or(line.len())
 }
 
-// The first word of a line.
-pub fn first(line: &[u8]) -> Token
-    ensures { (result.start ≤ result.end) × (result.end ≤ length line.now) × (result.start ≡ leading_of true line.now) × (result.end ≡ result.start + leading_of false (drop result.start line.now)) }
+// The first word of a line, and what follows it. The word is empty where there is none.
+pub fn first(line: &[u8]) -> (&[u8], &[u8])
+    ensures word { result.0.now ≡ take (leading_of false (from_word line.now)) (from_word line.now) }
+    ensures rest { result.1.now ≡ drop (leading_of false (from_word line.now)) (from_word line.now) }
 {
-    let start = leading(line, true);
-    let end = start + leading(&line[start..], false);
-    Token { start, end }
+    let from_word = &line[leading(line, true)..];
+    from_word.split_at(leading(from_word, false))
 }

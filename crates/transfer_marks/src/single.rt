@@ -6,7 +6,7 @@ ghost use Rattle.transfers.specs.Transfer.{single_tree};
 ghost use Rattle.place_marks.specs.Word.{map_in};
 
 use bits::field::{bit, bits};
-use register_marks::register::{core_known, mark_core, mark_single, single_known};
+use register_marks::register::{MarkedRegister, core_known, mark_core};
 use registers::registers::Single;
 
 pub fn mark_single_core(marks: u64, sn: Single, op: u32) -> u64
@@ -14,7 +14,7 @@ pub fn mark_single_core(marks: u64, sn: Single, op: u32) -> u64
 {
     let rt = bits(op, 12, 15) as usize;
     if bit(op, 20) {
-        return mark_core(marks, rt, single_known(marks, sn));
+        return mark_core(marks, rt, sn.known(marks));
     }
-    mark_single(marks, sn, core_known(marks, rt))
+    sn.mark(marks, core_known(marks, rt))
 }

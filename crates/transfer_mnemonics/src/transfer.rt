@@ -1,18 +1,19 @@
 // Register transfers.
 ghost use Rattle.std.specs.Prelude.{◌≡◌, ◌++◌, ◌<◌, ◌^◌};
 ghost use Rattle.addresses.specs.Address.{format_of};
-ghost use Rattle.text.specs.Text.{text_of, clip};
+ghost use Rattle.text.specs.Text.{clip};
 ghost use Rattle.transfer_mnemonics.specs.Transfer.{system_name, system_text, moved_text, single_text, transfer_text};
 
 use bits::field::{bit, bits};
 use mnemonics::parts::{condition, core, named, register};
-use register_fields::fields::single_n;
+use register_fields::fields::n_of;
+use registers::registers::Single;
 use text::text::Text;
 use transfers::{Transfer, is_high_half, transfer_of};
 
 // A system register.
 fn system_name(t: Text, n: u32) -> Text
-    ensures { text_of result ≡ clip (text_of t ++ system_name n) }
+    ensures { result ≡ clip (t ++ system_name n) }
 {
     if n == 0 {
         return t.add(b"FPSID");
@@ -28,7 +29,7 @@ fn system_name(t: Text, n: u32) -> Text
 
 // Opc1 7. FMSTAT is FMRX r15, FPSCR.
 fn system(t: Text, op: u32) -> Text
-    ensures { text_of result ≡ clip (text_of t ++ system_text op) }
+    ensures { result ≡ clip (t ++ system_text op) }
 {
     let rt = bits(op, 12, 15);
     let n = bits(op, 16, 19);
@@ -47,7 +48,7 @@ fn system(t: Text, op: u32) -> Text
 // A register of the unit, read to a core register (bit 20) or written from it, by the name of either.
 fn moved(t: Text, read: &[u8], written: &[u8], double: bool, n: usize, op: u32) -> Text
     requires { n < 2 ^ 32 }
-    ensures { text_of result ≡ clip (text_of t ++ moved_text read.now written.now (format_of double) n op) }
+    ensures { result ≡ clip (t ++ moved_text read.now written.now (format_of double) n op) }
 {
     let rt = bits(op, 12, 15);
     if bit(op, 20) {
@@ -56,26 +57,20 @@ fn moved(t: Text, read: &[u8], written: &[u8], double: bool, n: usize, op: u32) 
     core(register(named(t, written, op), double, n).add(b", "), rt)
 }
 
-fn index(x: u32) -> usize
-    ensures { result ≡ x }
-{
-    x as usize
-}
-
 // A double's high half, or a single.
 fn single(t: Text, op: u32) -> Text
-    ensures { text_of result ≡ clip (text_of t ++ single_text op) }
+    ensures { result ≡ clip (t ++ single_text op) }
 {
     if is_high_half(op) {
-        let n = index(bits(op, 16, 19));
+        let n = bits(op, 16, 19) as usize;
         return moved(t, b"FMRDH", b"FMDHR", true, n, op);
     }
-    let n = single_n(op).0;
+    let n = n_of::<Single>(op).0;
     moved(t, b"FMRS", b"FMSR", false, n, op)
 }
 
 pub fn transfer(t: Text, op: u32) -> Text
-    ensures { text_of result ≡ clip (text_of t ++ transfer_text op) }
+    ensures { result ≡ clip (t ++ transfer_text op) }
 {
     let transfer = transfer_of(op);
     match transfer {

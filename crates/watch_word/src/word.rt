@@ -22,12 +22,13 @@ use bits::field::bit;
 use data_hangs::data::hang_data;
 use data_marks::mark_data;
 use decode_table::table::number;
-use decoding::operation::numbered;
+use decoding::operation::Operation;
 use hangs::Hang;
 use machine::Controls;
 use machine::place::CONTROL;
 use place_marks::place::is_known;
 use processing::Processed;
+use registers::registers::{Double, Single};
 use run_word::{Next, Stop};
 use transfer_marks::single::mark_single_core;
 use transfer_marks::system::mark_system;
@@ -36,9 +37,8 @@ use transfers::system::system;
 use transfers::{Transfer, transfer_of};
 use vfp::current_pc;
 use watched_class::{WatchedClass, enabled_watched_class};
-use watched_scalars::{watched_double, watched_single};
-use watched_unary_doubles::watch_double;
-use watched_unary_singles::watch_single;
+use watched_scalars::arithmetic::watched_scalar;
+use watched_scalars::unary::watched_unary;
 
 // What is no array of the machine, the marks and what follows, after a word.
 #[derive(Clone, Copy)]
@@ -182,7 +182,7 @@ fn watch_data(
     if is_scalar(marks, x.fpscr, n) {
         return watch_scalar(s, x, marks, n, op);
     }
-    let o = numbered(n);
+    let o = Operation::from(n);
     let hang = hang_data(marks, o, op);
     match hang {
         Hang::At(place) => Seen {
@@ -221,7 +221,8 @@ fn is_scalar(marks: u64, fpscr: u32, n: u8) -> bool
     is_known(marks, CONTROL)
 }
 
-// A scalar with its marks made beside it, by the number of its operation as in the plain run.
+// A scalar with its marks made beside it, by the number of its operation as in the plain run: the enum misses the bar of speed (docs/DECISIONS.md, "Tried and
+// left out").
 fn watch_scalar(s: &mut [u32; 32], x: Controls, marks: u64, n: u8, op: u32) -> Seen
     requires { (n ≡ number_of (operation_of op)) × (field op 9 11 ≡ 0b101) × (0 < n) × (x.fpscr / 2 ^ 16 % 8 ≡ 0) × ((w : List ℕ) → known (map_in marks w) control ≡ true) }
     ensures { (r v w : List ℕ) → seen (state (assembled s.new r result.controls false) v) (map_in result.marks w) (next_of result.next) ≡ watched (data_tree false op) (state (assembled s.old r x false) v) (map_in marks w) }
@@ -229,17 +230,17 @@ fn watch_scalar(s: &mut [u32; 32], x: Controls, marks: u64, n: u8, op: u32) -> S
     let fpscr = x.fpscr;
     if n < 10 {
         if bit(op, 8) {
-            let y = watched_double(s, marks, fpscr, n, op);
+            let y = watched_scalar::<Double>(s, marks, fpscr, n, op);
             return done(x, y.fpscr, y.marks);
         }
-        let y = watched_single(s, marks, fpscr, n, op);
+        let y = watched_scalar::<Single>(s, marks, fpscr, n, op);
         return done(x, y.fpscr, y.marks);
     }
     if bit(op, 8) {
-        let y = watch_double(s, marks, fpscr, op, numbered(n));
+        let y = watched_unary::<Double>(s, marks, fpscr, op, Operation::from(n));
         return done(x, y.fpscr, y.marks);
     }
-    let y = watch_single(s, marks, fpscr, op, numbered(n));
+    let y = watched_unary::<Single>(s, marks, fpscr, op, Operation::from(n));
     done(x, y.fpscr, y.marks)
 }
 

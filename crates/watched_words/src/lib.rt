@@ -20,7 +20,7 @@ use known_places::ones_after;
 use machine::address::plus;
 use memory::words::{move_block, move_each};
 use place_marks::window::{mark_word, word_known};
-use register_marks::register::{mark_single, single_known};
+use register_marks::register::MarkedRegister;
 use registers::registers::Single;
 
 // The words and their marks, by bit 20 of the word loaded or stored. Only a store moves the number of ones among the window's marks.
@@ -108,7 +108,7 @@ fn mark_loads(
     let mut y = marks;
     for i in 0..count {
         let b = word_known(window_marks, base, plus(start, 4 * i));
-        y = mark_single(y, Single(first.0 + i as usize), b);
+        y = Single(first.0 + i as usize).mark(y, b);
     }
     y
 }
@@ -127,7 +127,7 @@ fn mark_stores(
 {
     let mut y = ones;
     for i in 0..count {
-        let b = single_known(marks, Single(first.0 + i as usize));
+        let b = Single(first.0 + i as usize).known(marks);
         let address = plus(start, 4 * i);
         y = ones_after(&window_marks[..], y, base, address, b);
         mark_word(window_marks, base, address, b);

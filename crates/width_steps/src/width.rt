@@ -1,4 +1,5 @@
-// Between single and double. Each gives FPSCR with what was raised.
+// Between single and double. Each gives FPSCR with what was raised. They are two functions and not one over the register: each is from the one precision to the
+// other, by a definition of its own, `widen_step` and `narrow_step`.
 ghost use Rattle.short_vectors.specs.Register.{SteppedWith};
 ghost use Rattle.width_steps.specs.Width.{widen_step, narrow_step};
 

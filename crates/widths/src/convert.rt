@@ -2,7 +2,7 @@
 ghost use Rattle.std.specs.Prelude.{◌≡◌};
 ghost use Rattle.widths.specs.Convert.{widen, widen_exceptions};
 
-use exceptions::exceptions::{Raised64, nan_exceptions32};
+use exceptions::exceptions::{Raised, nan_exceptions};
 use nans::nan::widened_nan;
 use rounding::lift::lift;
 
@@ -31,11 +31,11 @@ fn widened(control: u32, b: u32) -> u64
 }
 
 // The same, and what it raises.
-pub fn widen(control: u32, b: u32) -> Raised64
+pub fn widen(control: u32, b: u32) -> Raised<u64>
     ensures { (result.bits ≡ widen control b) × (result.exceptions ≡ widen_exceptions b) }
 {
-    Raised64 {
+    Raised {
         bits: widened(control, b),
-        exceptions: nan_exceptions32(b, b),
+        exceptions: nan_exceptions(b, b),
     }
 }

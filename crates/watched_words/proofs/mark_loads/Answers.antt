@@ -8,4 +8,4 @@ pub loop-i-init : goal.loop-i-init
 loop-i-init c = (omega arith, marks_none _ _)
 
 pub loop-i-preserved : goal.loop-i-preserved
-loop-i-preserved c = (omega arith, c.mark_single-y.ensures _ ∙ loaded _ _ _ _ _ _ _ _ (rw c.plus.ensures at c.word_known-b.ensures) c.loop-i.invariant.1)
+loop-i-preserved c = (omega arith, c.mark-y.ensures _ ∙ loaded _ _ _ _ _ _ _ _ (rw c.plus.ensures at c.word_known-b.ensures) c.loop-i.invariant.1)

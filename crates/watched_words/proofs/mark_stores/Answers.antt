@@ -8,4 +8,4 @@ pub loop-i-init : goal.loop-i-init
 loop-i-init c = (omega arith, refl, c.requires.2, marks_none _ _)
 
 pub loop-i-preserved : goal.loop-i-preserved
-loop-i-preserved c = (omega arith, c.mark_word.auto.marks ∙ c.loop-i.invariant.1, rw c.mark_word.ensures c.ones_after-y.ensures, rw (c.mark_word.ensures, c.plus-address.ensures) (stored _ _ _ _ _ _ _ _ (c.single_known-b.ensures c.loop-i.window_marks) c.loop-i.invariant.3))
+loop-i-preserved c = (omega arith, c.mark_word.auto.marks ∙ c.loop-i.invariant.1, rw c.mark_word.ensures c.ones_after-y.ensures, rw (c.mark_word.ensures, c.plus-address.ensures) (stored _ _ _ _ _ _ _ _ (c.known-b.ensures c.loop-i.window_marks) c.loop-i.invariant.3))

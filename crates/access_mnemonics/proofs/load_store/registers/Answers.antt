@@ -10,4 +10,4 @@ returns-then-count-eq1 c = rw (← c.count_of-count.ensures.0, c.if-count-eq1.tr
 
 pub returns : goal.returns
 unfolding registers_text
-returns c = rw (← c.count_of-count.ensures.0, ne_eqb _ _ c.if-count-eq1.false, ← c.index.ensures, ← c.first-n.ensures.0) (ended _ _ _ (more _ _ _ _ (more _ _ _ _ c.register-2.ensures c.add.ensures) c.register-3.ensures) (simp append_assoc))
+returns c = rw (← c.count_of-count.ensures.0, ne_eqb _ _ c.if-count-eq1.false, ← c.first-n.ensures.0) (ended _ _ _ (more _ _ _ _ (more _ _ _ _ c.register-2.ensures c.add.ensures) c.register-3.ensures) (simp append_assoc))

@@ -5,4 +5,4 @@ use Rattle.chain_lines.proofs.place.beyond.Goals as goal
 
 pub returns : goal.returns
 unfolding beyond_text
-returns c = rw (← c.low.ensures) (ended _ _ _ (more _ _ _ _ (more _ _ _ _ (more _ _ _ _ (more _ _ _ _ (more _ _ _ _ (begun _ c.new.ensures) c.add.ensures) c.add_decimal.ensures) c.add-2.ensures) c.add_decimal-2.ensures) c.add-3.ensures) (simp append_assoc))
+returns c = ended _ _ _ (more _ _ _ _ (more _ _ _ _ (more _ _ _ _ (more _ _ _ _ (more _ _ _ _ (begun _ c.new.ensures) c.add.ensures) c.add_decimal.ensures) c.add-2.ensures) c.add_count.ensures) c.add-3.ensures) (simp append_assoc)

@@ -3,4 +3,4 @@ use Rattle.decoding.proofs.Entries.{numbered_number}
 use Rattle.decode_table.proofs.table.operation.Goals as goal
 
 pub returns : goal.returns
-returns c = c.numbered.ensures ∙ rw c.number.ensures (numbered_number _)
+returns c = c.from.ensures ∙ rw c.number.ensures (numbered_number _)

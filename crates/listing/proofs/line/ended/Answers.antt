@@ -1,11 +1,11 @@
 use Rattle.listing.specs.Line.{ended_of}
-use Rattle.listing.proofs.Items.{blank_is, blank_not}
+use Rattle.listing.proofs.Items.{blank_is}
 use Rattle.listing.proofs.line.ended.Goals as goal
 
-pub returns-then-t : goal.returns-then-t
+pub returns-then-is_empty : goal.returns-then-is_empty
 unfolding ended_of
-returns-then-t c = rw (blank_is c.args.rest.now _ _ c.first-t.ensures c.if-t.true)
+returns-then-is_empty c = rw (← blank_is c.args.rest.now c.first.ensures.word c.first.ensures.rest, ← c.if-is_empty.ensures)
 
-pub returns : goal.returns
+pub returns-else-is_empty : goal.returns-else-is_empty
 unfolding ended_of
-returns c = rw (blank_not c.args.rest.now _ _ c.first-t.ensures c.if-t.false)
+returns-else-is_empty c = rw (← blank_is c.args.rest.now c.first.ensures.word c.first.ensures.rest, ← c.if-is_empty.ensures)

@@ -1,17 +1,38 @@
-use Rattle.tokens.proofs.Words.{part_end}
-use Rattle.listing.proofs.Items.{next_none, next_blank, next_wrong, next_value}
-use Rattle.listing.proofs.Nexts.{end_none, mistake_none, place_from}
-use native.Mathlib.Omega.{arith}
+use Rattle.std.proofs.Common.{◌≡◌, ◌+◌, ◌-◌, ◌∙◌, ap, arith, length, drop}
+use lib.ListN.{length-drop}
+use Rattle.place_names.specs.Place.{place_of}
+use Rattle.numerals.proofs.Reading.{rest}
+use Rattle.listing.specs.Next.{Place, Mistake}
+use Rattle.listing.specs.Line.{end_of, next_place}
+use Rattle.listing.proofs.Items.{end_is, blank_is, given_some, given_none, next_none}
 use Rattle.listing.proofs.line.next_place.Goals as goal
 
-pub returns-then-line-from : goal.returns-then-line-from
-returns-then-line-from c = (λ p n e. absurd (end_none p n e), next_none c.args.line.now _ (omega arith))
+pub returns-then-line-from-clause-next : goal.returns-then-line-from-clause-next
+returns-then-line-from-clause-next c = next_none c.args.line.now c.args.from (omega arith)
 
-pub returns-then-start-end : goal.returns-then-start-end
-returns-then-start-end c = (λ p n e. absurd (end_none p n e), next_blank c.args.line.now _ _ _ c.first-t.ensures c.if-start-end.true)
+pub returns-then-is_empty-clause-next : goal.returns-then-is_empty-clause-next
+unfolding next_place
+returns-then-is_empty-clause-next c =
+    let l = drop c.args.from c.args.line.now in
+    let word = rw (rest c.args.line.now c.args.from) at c.first.ensures.word in
+    let after = rw (rest c.args.line.now c.args.from) at c.first.ensures.rest in
+    rw (← blank_is l word after, ← c.if-is_empty.ensures)
 
-pub returns-in_default : goal.returns-in_default
-returns-in_default c = (λ p n e. absurd (mistake_none p n e), next_wrong c.args.line.now _ _ _ c.first-t.ensures c.if-start-end.false _ c.place_of.ensures c.in_default.is)
+pub returns-in-Some-clause-next : goal.returns-in-Some-clause-next
+unfolding next_place
+returns-in-Some-clause-next c =
+    let l = drop c.args.from c.args.line.now in
+    let word = rw (rest c.args.line.now c.args.from) at c.first.ensures.word in
+    let after = rw (rest c.args.line.now c.args.from) at c.first.ensures.rest in
+    let end : length c.args.line.now - length c.first.result.1.now ≡ c.args.from + end_of l =
+    omega (arith, end_is l word after, length-drop c.args.from c.args.line.now) in
+    rw (← blank_is l word after, ← c.if-is_empty.ensures)
+    (ap (Place c.in-Some.place) end ∙ given_some l word after place_of _ c.place_of.ensures (λ p. Place p (c.args.from + end_of l)) Mistake _ c.in-Some.is)
 
-pub returns : goal.returns
-returns c = (λ p n e. let q = place_from _ p _ n e in (omega (arith, c.if-start-end.false, c.first-t.ensures.0), omega (arith, part_end c.args.line.now _ _ c.if-line-from.false c.first-t.ensures.1)), next_value c.args.line.now _ _ _ c.first-t.ensures c.if-start-end.false _ c.place_of.ensures _ c.in-Value.is)
+pub returns-in-None-clause-next : goal.returns-in-None-clause-next
+unfolding next_place
+returns-in-None-clause-next c =
+    let l = drop c.args.from c.args.line.now in
+    let word = rw (rest c.args.line.now c.args.from) at c.first.ensures.word in
+    let after = rw (rest c.args.line.now c.args.from) at c.first.ensures.rest in
+    rw (← blank_is l word after, ← c.if-is_empty.ensures) (given_none l word after place_of _ c.place_of.ensures (λ p. Place p (c.args.from + end_of l)) Mistake c.in-None.is)

@@ -7,7 +7,7 @@ use Rattle.mnemonics.proofs.parts.condition.Goals as goal
 
 pub returns-then-c-lt14 : goal.returns-then-c-lt14
 unfolding condition_text
-returns-then-c-lt14 c = rw (← c.bits-c.ensures, ← c.index.ensures) c.two_letters.ensures
+returns-then-c-lt14 c = rw (← c.bits-c.ensures) c.two_letters.ensures
 
 pub returns : goal.returns
 unfolding condition_text

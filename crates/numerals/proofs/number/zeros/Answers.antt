@@ -1,14 +1,11 @@
-use Rattle.numerals.proofs.Digits.{strip_zero, strip_digit, strip_end}
-use mathlib.Core.Path.{◌∙◌}
-use borrow.Author.Rules.{rules}
-use native.Mathlib.Omega.{arith}
+use Rattle.std.proofs.Common.{rules, tests}
+use Rattle.std.proofs.lemmas.Iterator.{YieldsList-from_slice}
+use Rattle.std.proofs.lemmas.Iterator.Search.{position_from_yields_List}
+use Rattle.numerals.proofs.Digits.{other, zeros_found}
 use Rattle.numerals.proofs.number.zeros.Goals as goal
 
-pub returns-then-digits-n-ne48 : goal.returns-then-digits-n-ne48
-returns-then-digits-n-ne48 c = (omega arith, strip_digit _ _ c.loop-n-test.true (search rules) c.if-digits-n-ne48.true ∙ c.loop-n.invariant.1)
-
-pub loop-n-preserved : goal.loop-n-preserved
-loop-n-preserved c = (omega arith, strip_zero _ _ c.loop-n-test.true (search rules) c.if-digits-n-ne48.false ∙ c.loop-n.invariant.1)
-
 pub returns : goal.returns
-returns c = (omega arith, strip_end _ _ _ c.loop-n.invariant.0 c.loop-n-test.false c.loop-n.invariant.1)
+returns c =
+    zeros_found c.args.digits c.position.result _ (search rules)
+    (position_from_yields_List other _ _ c.position.result c.position.ensures.ran (YieldsList-from_slice _ c.iter.ensures.rest) (λ x b q k. search (rules, tests)))
+    c.unwrap_or.ensures

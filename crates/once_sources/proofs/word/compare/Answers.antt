@@ -10,7 +10,7 @@ use Rattle.once_sources.proofs.Rules.{compare_Rule}
 use Rattle.once_sources.proofs.word.compare.Goals as goal
 
 pub returns-then-double : goal.returns-then-double
-returns-then-double c = let a = c.args in as_tested (λ (b : Bool). (any : Bool) → Tracing (compare_step (precision b) any (reg_d (precision b) a.op) (reg_m (precision b) a.op)) a.marks a.q c.source_of.result) c.if-double.true (as_fields (λ (d m : ℕ). (any : Bool) → Tracing (compare_step binary64 any d m) a.marks a.q c.source_of.result) c.double_d.ensures.0 c.double_m.ensures.0 (λ any. c.source_of.ensures _ _ _ (compare_Rule binary64 any c.double_d.result.0 c.double_m.result.0) c.of_doubles-p.ensures.0 c.of_doubles-p.ensures.0))
+returns-then-double c = let a = c.args in as_tested (λ (b : Bool). (any : Bool) → Tracing (compare_step (precision b) any (reg_d (precision b) a.op) (reg_m (precision b) a.op)) a.marks a.q c.source_of.result) c.if-double.true (as_fields (λ (d m : ℕ). (any : Bool) → Tracing (compare_step binary64 any d m) a.marks a.q c.source_of.result) c.d_of.ensures.0 c.m_of.ensures.0 (λ any. c.source_of.ensures _ _ _ (compare_Rule binary64 any c.d_of.result.0 c.m_of.result.0) c.of_doubles-p.ensures.0 c.of_doubles-p.ensures.0))
 
 pub returns : goal.returns
-returns c = let a = c.args in as_tested (λ (b : Bool). (any : Bool) → Tracing (compare_step (precision b) any (reg_d (precision b) a.op) (reg_m (precision b) a.op)) a.marks a.q c.source_of-2.result) c.if-double.false (as_fields (λ (d m : ℕ). (any : Bool) → Tracing (compare_step binary32 any d m) a.marks a.q c.source_of-2.result) c.single_d.ensures.0 c.single_m.ensures.0 (λ any. c.source_of-2.ensures _ _ _ (compare_Rule binary32 any c.single_d.result.0 c.single_m.result.0) c.of_singles-p.ensures.0 c.of_singles-p.ensures.0))
+returns c = let a = c.args in as_tested (λ (b : Bool). (any : Bool) → Tracing (compare_step (precision b) any (reg_d (precision b) a.op) (reg_m (precision b) a.op)) a.marks a.q c.source_of-2.result) c.if-double.false (as_fields (λ (d m : ℕ). (any : Bool) → Tracing (compare_step binary32 any d m) a.marks a.q c.source_of-2.result) c.d_of-2.ensures.0 c.m_of-2.ensures.0 (λ any. c.source_of-2.ensures _ _ _ (compare_Rule binary32 any c.d_of-2.result.0 c.m_of-2.result.0) c.of_singles-p.ensures.0 c.of_singles-p.ensures.0))

@@ -11,7 +11,7 @@ use Rattle.once_sources.proofs.Rules.{compare_zero_Rule}
 use Rattle.once_sources.proofs.word.compare_zero.Goals as goal
 
 pub returns-then-double : goal.returns-then-double
-returns-then-double c = let a = c.args in as_tested (λ (b : Bool). (any : Bool) → Tracing (compare_zero_step (precision b) any (reg_d (precision b) a.op)) a.marks a.q c.source_of.result) c.if-double.true (as_field (λ (d : ℕ). (any : Bool) → Tracing (compare_zero_step binary64 any d) a.marks a.q c.source_of.result) c.double_d.ensures.0 (λ any. c.source_of.ensures _ _ _ (compare_zero_Rule binary64 any c.double_d.result.0) c.of_double-p.ensures c.of_double-p.ensures))
+returns-then-double c = let a = c.args in as_tested (λ (b : Bool). (any : Bool) → Tracing (compare_zero_step (precision b) any (reg_d (precision b) a.op)) a.marks a.q c.source_of.result) c.if-double.true (as_field (λ (d : ℕ). (any : Bool) → Tracing (compare_zero_step binary64 any d) a.marks a.q c.source_of.result) c.d_of.ensures.0 (λ any. c.source_of.ensures _ _ _ (compare_zero_Rule binary64 any c.d_of.result.0) c.of_double-p.ensures c.of_double-p.ensures))
 
 pub returns : goal.returns
-returns c = let a = c.args in as_tested (λ (b : Bool). (any : Bool) → Tracing (compare_zero_step (precision b) any (reg_d (precision b) a.op)) a.marks a.q c.source_of-2.result) c.if-double.false (as_field (λ (d : ℕ). (any : Bool) → Tracing (compare_zero_step binary32 any d) a.marks a.q c.source_of-2.result) c.single_d-d.ensures.0 (λ any. c.source_of-2.ensures _ _ _ (compare_zero_Rule binary32 any c.single_d-d.result.0) (only a.marks c.single_d-d.result.0) (only a.marks c.single_d-d.result.0)))
+returns c = let a = c.args in as_tested (λ (b : Bool). (any : Bool) → Tracing (compare_zero_step (precision b) any (reg_d (precision b) a.op)) a.marks a.q c.source_of-2.result) c.if-double.false (as_field (λ (d : ℕ). (any : Bool) → Tracing (compare_zero_step binary32 any d) a.marks a.q c.source_of-2.result) c.d_of-d.ensures.0 (λ any. c.source_of-2.ensures _ _ _ (compare_zero_Rule binary32 any c.d_of-d.result.0) (only a.marks c.d_of-d.result.0) (only a.marks c.d_of-d.result.0)))

@@ -13,7 +13,7 @@ use Rattle.once_sources.proofs.Rules.{from_Rule-single, from_Rule-double}
 use Rattle.once_sources.proofs.word.from_integer.Goals as goal
 
 pub returns-then-double : goal.returns-then-double
-returns-then-double c = let a = c.args in as_tested (λ (b : Bool). (any : Bool) → Tracing (from_step (precision b) any (reg_d (precision b) a.op) (reg_m binary32 a.op)) a.marks a.q c.source_of.result) c.if-double.true (as_fields (λ (d m : ℕ). (any : Bool) → Tracing (from_step binary64 any d m) a.marks a.q c.source_of.result) c.double_d-d.ensures.0 c.single_m-m.ensures.0 (λ any. c.source_of.ensures _ _ _ (from_Rule-double any c.double_d-d.result.0 c.single_m-m.result.0) (only a.marks c.single_m-m.result.0) (only a.marks c.single_m-m.result.0)))
+returns-then-double c = let a = c.args in as_tested (λ (b : Bool). (any : Bool) → Tracing (from_step (precision b) any (reg_d (precision b) a.op) (reg_m binary32 a.op)) a.marks a.q c.source_of.result) c.if-double.true (as_fields (λ (d m : ℕ). (any : Bool) → Tracing (from_step binary64 any d m) a.marks a.q c.source_of.result) c.d_of-d.ensures.0 c.m_of-m.ensures.0 (λ any. c.source_of.ensures _ _ _ (from_Rule-double any c.d_of-d.result.0 c.m_of-m.result.0) (only a.marks c.m_of-m.result.0) (only a.marks c.m_of-m.result.0)))
 
 pub returns : goal.returns
-returns c = let a = c.args in as_tested (λ (b : Bool). (any : Bool) → Tracing (from_step (precision b) any (reg_d (precision b) a.op) (reg_m binary32 a.op)) a.marks a.q c.source_of-2.result) c.if-double.false (as_fields (λ (d m : ℕ). (any : Bool) → Tracing (from_step binary32 any d m) a.marks a.q c.source_of-2.result) c.single_d-d.ensures.0 c.single_m-m.ensures.0 (λ any. c.source_of-2.ensures _ _ _ (from_Rule-single any c.single_d-d.result.0 c.single_m-m.result.0) (c.of_control.ensures (words_of binary32 (c.single_m-m.result.0 ∷ [])) (only a.marks c.single_m-m.result.0)) (only a.marks c.single_m-m.result.0)))
+returns c = let a = c.args in as_tested (λ (b : Bool). (any : Bool) → Tracing (from_step (precision b) any (reg_d (precision b) a.op) (reg_m binary32 a.op)) a.marks a.q c.source_of-2.result) c.if-double.false (as_fields (λ (d m : ℕ). (any : Bool) → Tracing (from_step binary32 any d m) a.marks a.q c.source_of-2.result) c.d_of-d-2.ensures.0 c.m_of-m.ensures.0 (λ any. c.source_of-2.ensures _ _ _ (from_Rule-single any c.d_of-d-2.result.0 c.m_of-m.result.0) (c.of_control.ensures (words_of binary32 (c.m_of-m.result.0 ∷ [])) (only a.marks c.m_of-m.result.0)) (only a.marks c.m_of-m.result.0)))

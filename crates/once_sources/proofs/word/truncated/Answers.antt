@@ -11,7 +11,7 @@ use Rattle.once_sources.proofs.Rules.{truncate_Rule}
 use Rattle.once_sources.proofs.word.truncated.Goals as goal
 
 pub returns-then-double : goal.returns-then-double
-returns-then-double c = let a = c.args in as_tested (λ (b : Bool). (any : Bool) → Tracing (truncate_step (precision b) any (reg_d binary32 a.op) (reg_m (precision b) a.op)) a.marks a.q c.source_of.result) c.if-double.true (as_fields (λ (d m : ℕ). (any : Bool) → Tracing (truncate_step binary64 any d m) a.marks a.q c.source_of.result) c.single_d-d.ensures.0 c.double_m.ensures.0 (λ any. c.source_of.ensures _ _ _ (truncate_Rule binary64 any c.single_d-d.result.0 c.double_m.result.0) c.of_double-p.ensures c.of_double-p.ensures))
+returns-then-double c = let a = c.args in as_tested (λ (b : Bool). (any : Bool) → Tracing (truncate_step (precision b) any (reg_d binary32 a.op) (reg_m (precision b) a.op)) a.marks a.q c.source_of.result) c.if-double.true (as_fields (λ (d m : ℕ). (any : Bool) → Tracing (truncate_step binary64 any d m) a.marks a.q c.source_of.result) c.d_of-d.ensures.0 c.m_of.ensures.0 (λ any. c.source_of.ensures _ _ _ (truncate_Rule binary64 any c.d_of-d.result.0 c.m_of.result.0) c.of_double-p.ensures c.of_double-p.ensures))
 
 pub returns : goal.returns
-returns c = let a = c.args in as_tested (λ (b : Bool). (any : Bool) → Tracing (truncate_step (precision b) any (reg_d binary32 a.op) (reg_m (precision b) a.op)) a.marks a.q c.source_of-2.result) c.if-double.false (as_fields (λ (d m : ℕ). (any : Bool) → Tracing (truncate_step binary32 any d m) a.marks a.q c.source_of-2.result) c.single_d-d.ensures.0 c.single_m-m.ensures.0 (λ any. c.source_of-2.ensures _ _ _ (truncate_Rule binary32 any c.single_d-d.result.0 c.single_m-m.result.0) (only a.marks c.single_m-m.result.0) (only a.marks c.single_m-m.result.0)))
+returns c = let a = c.args in as_tested (λ (b : Bool). (any : Bool) → Tracing (truncate_step (precision b) any (reg_d binary32 a.op) (reg_m (precision b) a.op)) a.marks a.q c.source_of-2.result) c.if-double.false (as_fields (λ (d m : ℕ). (any : Bool) → Tracing (truncate_step binary32 any d m) a.marks a.q c.source_of-2.result) c.d_of-d.ensures.0 c.m_of-m.ensures.0 (λ any. c.source_of-2.ensures _ _ _ (truncate_Rule binary32 any c.d_of-d.result.0 c.m_of-m.result.0) (only a.marks c.m_of-m.result.0) (only a.marks c.m_of-m.result.0)))

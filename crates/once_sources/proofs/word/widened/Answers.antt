@@ -10,4 +10,4 @@ use Rattle.once_sources.proofs.Rules.{widen_Rule}
 use Rattle.once_sources.proofs.word.widened.Goals as goal
 
 pub returns : goal.returns
-returns c = let a = c.args in as_fields (λ (d m : ℕ). Tracing (widen_step d m) a.marks a.q c.source_of.result) c.double_d-d.ensures.0 c.single_m-m.ensures.0 (c.source_of.ensures _ _ _ (widen_Rule c.double_d-d.result.0 c.single_m-m.result.0) (c.of_control.ensures (words_of binary32 (c.single_m-m.result.0 ∷ [])) (only a.marks c.single_m-m.result.0)) (only a.marks c.single_m-m.result.0))
+returns c = let a = c.args in as_fields (λ (d m : ℕ). Tracing (widen_step d m) a.marks a.q c.source_of.result) c.d_of-d.ensures.0 c.m_of-m.ensures.0 (c.source_of.ensures _ _ _ (widen_Rule c.d_of-d.result.0 c.m_of-m.result.0) (c.of_control.ensures (words_of binary32 (c.m_of-m.result.0 ∷ [])) (only a.marks c.m_of-m.result.0)) (only a.marks c.m_of-m.result.0))

@@ -1,11 +1,12 @@
 use Rattle.place_values.specs.Place.{marked_at}
-use borrow.Author.Tests.{lt-ltb, le-ltb}
+use Rattle.std.proofs.lemmas.Grind.{common_steps}
+use native.Mathlib.Omega.{arith}
 use Rattle.place_values.proofs.place.marked.Goals as goal
 
-pub returns-then-i-marks : goal.returns-then-i-marks
+pub returns-in-Some : goal.returns-in-Some
 unfolding marked_at
-returns-then-i-marks c = rw (lt-ltb _ _ c.if-i-marks.true)
+returns-in-Some c = grind (arith, common_steps)
 
-pub returns : goal.returns
+pub returns-in-None : goal.returns-in-None
 unfolding marked_at
-returns c = rw (le-ltb _ _ c.if-i-marks.false)
+returns-in-None c = grind (arith, common_steps)

@@ -5,4 +5,4 @@ use Rattle.processing_mnemonics.proofs.data.from_integer.Goals as goal
 
 pub returns : goal.returns
 unfolding from_integer_text
-returns c = rw (← c.single_m.ensures.0) (ended _ _ _ (more _ _ _ _ (more _ _ _ _ c.one.ensures c.add.ensures) c.register.ensures) (simp append_assoc))
+returns c = rw (← c.m_of.ensures.0) (ended _ _ _ (more _ _ _ _ (more _ _ _ _ c.one.ensures c.add.ensures) c.register.ensures) (simp append_assoc))

@@ -1,14 +1,13 @@
 use mathlib.Core.List.{append_assoc}
 use Rattle.text.proofs.Chain.{more, ended}
-use Rattle.text.specs.Text.{text_of}
 use Rattle.mnemonics.proofs.Precision.{at_precision}
 use Rattle.processing_mnemonics.specs.Data.{one_text, two_text}
 use Rattle.processing_mnemonics.proofs.data.two.Goals as goal
 
 pub returns-then-double : goal.returns-then-double
 unfolding two_text
-returns-then-double c = rw (c.if-double.true, ← c.double_m.ensures.0) (ended _ _ _ (more _ _ _ _ (more _ _ _ _ (at_precision (text_of c.args.t) _ (λ f. one_text f c.args.op c.args.name.now) c.if-double.true c.one.ensures) c.add-start.ensures) c.register.ensures) (simp append_assoc))
+returns-then-double c = rw (c.if-double.true, ← c.m_of.ensures.0) (ended _ _ _ (more _ _ _ _ (more _ _ _ _ (at_precision c.args.t _ (λ f. one_text f c.args.op c.args.name.now) c.if-double.true c.one.ensures) c.add-start.ensures) c.register.ensures) (simp append_assoc))
 
 pub returns : goal.returns
 unfolding two_text
-returns c = rw (c.if-double.false, ← c.single_m.ensures.0) (ended _ _ _ (more _ _ _ _ (more _ _ _ _ (at_precision (text_of c.args.t) _ (λ f. one_text f c.args.op c.args.name.now) c.if-double.false c.one.ensures) c.add-start.ensures) c.register-2.ensures) (simp append_assoc))
+returns c = rw (c.if-double.false, ← c.m_of-2.ensures.0) (ended _ _ _ (more _ _ _ _ (more _ _ _ _ (at_precision c.args.t _ (λ f. one_text f c.args.op c.args.name.now) c.if-double.false c.one.ensures) c.add-start.ensures) c.register-2.ensures) (simp append_assoc))

@@ -5,4 +5,4 @@ use Rattle.report.proofs.line.known.Goals as goal
 
 pub returns : goal.returns
 unfolding known_text
-returns c = rw (← c.low.ensures, ← c.low-2.ensures) (ended _ _ _ (more _ _ _ _ (more _ _ _ _ (more _ _ _ _ (more _ _ _ _ (begun _ c.new.ensures) c.add_decimal.ensures) c.add.ensures) c.add_decimal-2.ensures) c.add-2.ensures) (simp append_assoc))
+returns c = ended _ _ _ (more _ _ _ _ (more _ _ _ _ (more _ _ _ _ (more _ _ _ _ (begun _ c.new.ensures) c.add_count.ensures) c.add.ensures) c.add_count-2.ensures) c.add-2.ensures) (simp append_assoc)

@@ -1,16 +1,28 @@
-use borrow.Author.Tests.{not-true, not-false}
+use Rattle.std.proofs.Common.{◌∙◌, refl, sym}
+use Rattle.std.proofs.lemmas.Result.{err_from_is_err_and}
+use Rattle.script.specs.Layout.{layout_of}
 use Rattle.script.proofs.Unknown.{unknown_end, unknown_mistake, unknown_beyond, unknown_on, one_unknown}
-use mathlib.Core.Path.{sym, ◌∙◌}
 use Rattle.script.proofs.item.mark_all_unknown.Goals as goal
 
+pub returns-in_err-place : goal.returns-in_err-place
+returns-in_err-place c = λ s w l.
+    let error = err_from_is_err_and c.from_residual.result c.from_residual.ensures.1 in
+    rw (error.1, error.2, c.in_err-place.ensures.expected)
+    (unknown_mistake (layout_of c.args.layout) _ c.args.line.now _ c.in_err-place.ensures.next ∙ c.loop-place.invariant s w l)
+
 pub returns-then-not-is_place : goal.returns-then-not-is_place
-returns-then-not-is_place c = λ s w l. unknown_beyond c.args.layout _ c.args.line.now _ _ _ _ c.index-p.ensures (sym c.in-Place.is ∙ c.next_place-next.ensures.1) (sym c.is_place.ensures ∙ not-true c.is_place.result c.if-not-is_place.true-raw) ∙ c.loop-place.invariant s w l
+returns-then-not-is_place c = λ s w l.
+    rw c.words-words.ensures
+    (unknown_beyond (layout_of c.args.layout) _ c.args.line.now _ _ _ _ refl (rw c.in-Some.is at c.in_ok-place.ensures.next) (sym (rw c.words-words.ensures at c.is_place.ensures) ∙ c.if-not-is_place.true)
+    ∙ c.loop-place.invariant s w l)
 
 pub loop-place-preserved : goal.loop-place-preserved
-loop-place-preserved c = λ s w l. unknown_on c.args.layout _ c.args.line.now _ _ _ _ c.index-p.ensures (sym c.in-Place.is ∙ c.next_place-next.ensures.1) (sym c.is_place.ensures ∙ not-false c.is_place.result c.if-not-is_place.false-raw) _ (one_unknown _ s w l _ _ c.mark_unknown.ensures) ∙ c.loop-place.invariant s w l
+loop-place-preserved c = λ s w l.
+    unknown_on (layout_of c.args.layout) _ c.args.line.now _ _ _ _ refl (rw c.in-Some.is at c.in_ok-place.ensures.next) (sym (rw c.words-words.ensures at c.is_place.ensures) ∙ c.if-not-is_place.false) _
+    (one_unknown _ s w l _ _ c.mark_unknown.ensures)
+    ∙ c.loop-place.invariant s w l
 
-pub returns-in-End : goal.returns-in-End
-returns-in-End c = λ s w l. unknown_end c.args.layout _ c.args.line.now _ (sym c.in-End.is ∙ c.next_place-next.ensures.1) ∙ c.loop-place.invariant s w l
-
-pub returns-in-Mistake : goal.returns-in-Mistake
-returns-in-Mistake c = λ s w l. unknown_mistake c.args.layout _ c.args.line.now _ (sym c.in-Mistake.is ∙ c.next_place-next.ensures.1) ∙ c.loop-place.invariant s w l
+pub returns : goal.returns
+returns c = λ s w l.
+    unknown_end (layout_of c.args.layout) _ c.args.line.now _ (rw c.in_default.is at c.in_ok-place.ensures.next)
+    ∙ c.loop-place.invariant s w l

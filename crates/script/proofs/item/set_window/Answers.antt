@@ -1,15 +1,16 @@
+use Rattle.std.proofs.Common.{◌∙◌, sym, arith}
+use borrow.Author.Tests.{ne_eqb}
 use Rattle.script.specs.Item.{window_step}
-use borrow.Author.Tests.{eq-eqb, ne_eqb}
 use Rattle.script.proofs.item.set_window.Goals as goal
 
-pub returns-then-layout : goal.returns-then-layout
+pub returns-then-is_some : goal.returns-then-is_some
 unfolding window_step
-returns-then-layout c = rw c.if-layout.true
+returns-then-is_some c = rw (sym c.is_some.ensures ∙ c.if-is_some.true)
 
-pub returns-then-limit-ne0 : goal.returns-then-limit-ne0
+pub returns-in-0 : goal.returns-in-0
 unfolding window_step
-returns-then-limit-ne0 c = rw (c.if-layout.false, ← c.window_limit-limit.ensures, ne_eqb _ _ c.if-limit-ne0.true)
+returns-in-0 c = rw (sym c.is_some.ensures ∙ c.if-is_some.false, ← c.window_limit.ensures, c.in-0.is)
 
-pub returns : goal.returns
+pub returns-in_default : goal.returns-in_default
 unfolding window_step
-returns c = rw (c.if-layout.false, ← c.window_limit-limit.ensures, eq-eqb _ _ c.if-limit-ne0.false)
+returns-in_default c = rw (sym c.is_some.ensures ∙ c.if-is_some.false, ← c.window_limit.ensures, ne_eqb c.window_limit.result 0 (λ z. omega arith))

@@ -10,13 +10,13 @@ use Rattle.stepping_sources.proofs.Walks.{marked_arithmetic, marked_root}
 use Rattle.stepping_sources.proofs.iteration.marks_by.Goals as goal
 
 pub returns-then-double : goal.returns-then-double
-returns-then-double c = let a = c.args in λ control h. as_tested (λ (z : Bool). MarksStepped (step_by (precision z) control a.n a.d a.a a.b) a.marks c.mark_sum_double.result) c.if-double.true (marked_arithmetic binary64 control a.n a.d a.a a.b a.marks c.mark_sum_double.result c.if-n-lt10.true (c.arithmetic_of-kind.ensures ∙ ap arithmetic_of c.numbered.ensures) (c.mark_sum_double.ensures control))
+returns-then-double c = let a = c.args in λ control h. as_tested (λ (z : Bool). MarksStepped (step_by (precision z) control a.n a.d a.a a.b) a.marks c.mark_sum.result) c.if-double.true (marked_arithmetic binary64 control a.n a.d a.a a.b a.marks c.mark_sum.result c.if-n-lt10.true (c.arithmetic_of-kind.ensures ∙ ap arithmetic_of c.from.ensures) (c.mark_sum.ensures control))
 
 pub returns-then-n-lt10 : goal.returns-then-n-lt10
-returns-then-n-lt10 c = let a = c.args in λ control h. as_tested (λ (z : Bool). MarksStepped (step_by (precision z) control a.n a.d a.a a.b) a.marks c.mark_sum_single.result) c.if-double.false (marked_arithmetic binary32 control a.n a.d a.a a.b a.marks c.mark_sum_single.result c.if-n-lt10.true (c.arithmetic_of-kind.ensures ∙ ap arithmetic_of c.numbered.ensures) (c.mark_sum_single.ensures control))
+returns-then-n-lt10 c = let a = c.args in λ control h. as_tested (λ (z : Bool). MarksStepped (step_by (precision z) control a.n a.d a.a a.b) a.marks c.mark_sum-then-n-lt10.result) c.if-double.false (marked_arithmetic binary32 control a.n a.d a.a a.b a.marks c.mark_sum-then-n-lt10.result c.if-n-lt10.true (c.arithmetic_of-kind.ensures ∙ ap arithmetic_of c.from.ensures) (c.mark_sum-then-n-lt10.ensures control))
 
 pub returns-then-double-2 : goal.returns-then-double-2
-returns-then-double-2 c = let a = c.args in λ control h. as_tested (λ (z : Bool). MarksStepped (step_by (precision z) control a.n a.d a.a a.b) a.marks c.mark_root_double.result) c.if-double-2.true (marked_root binary64 control a.n a.d a.a a.b a.marks c.mark_root_double.result (h c.if-n-lt10.false) (c.mark_root_double.ensures control))
+returns-then-double-2 c = let a = c.args in λ control h. as_tested (λ (z : Bool). MarksStepped (step_by (precision z) control a.n a.d a.a a.b) a.marks c.mark_root.result) c.if-double-2.true (marked_root binary64 control a.n a.d a.a a.b a.marks c.mark_root.result (h c.if-n-lt10.false) (c.mark_root.ensures control))
 
 pub returns : goal.returns
-returns c = let a = c.args in λ control h. as_tested (λ (z : Bool). MarksStepped (step_by (precision z) control a.n a.d a.a a.b) a.marks c.mark_root_single.result) c.if-double-2.false (marked_root binary32 control a.n a.d a.a a.b a.marks c.mark_root_single.result (h c.if-n-lt10.false) (c.mark_root_single.ensures control))
+returns c = let a = c.args in λ control h. as_tested (λ (z : Bool). MarksStepped (step_by (precision z) control a.n a.d a.a a.b) a.marks c.mark_root-2.result) c.if-double-2.false (marked_root binary32 control a.n a.d a.a a.b a.marks c.mark_root-2.result (h c.if-n-lt10.false) (c.mark_root-2.ensures control))

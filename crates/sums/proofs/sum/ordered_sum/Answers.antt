@@ -1,13 +1,26 @@
+use Rattle.std.proofs.Common.{sym, ◌∙◌, arith}
+use Rattle.sums.proofs.Align.{add_room, sub_room}
 use Rattle.sums.proofs.Numbers.{wide, sum_is, difference_is}
-use Rattle.sums.proofs.Align.{sub_room}
-use mathlib.Core.Path.{sym, ◌∙◌}
 use Rattle.sums.proofs.sum.ordered_sum.Goals as goal
 
 pub overflow_sub-result : goal.overflow_sub-result
-overflow_sub-result c = (sub_room c.args.a c.args.b _ _ _ c.requires.digits.0 c.requires.digits.1 c.requires.digits.2 c.align-w.ensures (wide c.args.s c.args.t c.args.a c.args.ea c.args.b c.args.eb _ _ c.requires.digits.0 c.requires.digits.1 c.requires.digits.2 c.requires.exponents.0 c.requires.exponents.1 c.requires.exponents.2 c.align-w.ensures)).0
+overflow_sub-result c =
+    let a = c.args in
+    let p = c.requires.digits in
+    let q = c.requires.exponents in
+    let far = wide a.s a.t a.a a.ea a.b a.eb _ _ p.0 p.1 p.2 q.0 q.1 q.2 c.align-w.ensures in
+    (sub_room a.a a.b _ _ _ p.0 p.1 p.2 c.align-w.ensures far).0
 
 pub returns-then-unlike : goal.returns-then-unlike
-returns-then-unlike c = difference_is c.args.s c.args.t c.args.a c.args.ea c.args.b c.args.eb _ _ c.requires.digits.0 c.requires.digits.1 c.requires.digits.2 c.requires.exponents.0 c.requires.exponents.1 c.requires.exponents.2 c.align-w.ensures (sym c.unlike.ensures ∙ c.if-unlike.true)
+returns-then-unlike c =
+    let a = c.args in
+    let p = c.requires.digits in
+    let q = c.requires.exponents in
+    difference_is a.s a.t a.a a.ea a.b a.eb _ _ p.0 p.1 p.2 q.0 q.1 q.2 c.align-w.ensures (sym c.unlike.ensures ∙ c.if-unlike.true)
 
 pub returns : goal.returns
-returns c = sum_is c.args.s c.args.t c.args.a c.args.ea c.args.b c.args.eb _ _ c.requires.digits.0 c.requires.digits.1 c.requires.digits.2 c.requires.exponents.0 c.requires.exponents.1 c.requires.exponents.2 c.align-w.ensures (sym c.unlike.ensures ∙ c.if-unlike.false)
+returns c =
+    let a = c.args in
+    let p = c.requires.digits in
+    let q = c.requires.exponents in
+    sum_is a.s a.t a.a a.ea a.b a.eb _ _ p.0 p.1 p.2 q.0 q.1 q.2 c.align-w.ensures (sym c.unlike.ensures ∙ c.if-unlike.false)

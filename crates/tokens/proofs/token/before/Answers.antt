@@ -1,13 +1,11 @@
-use Rattle.tokens.proofs.Words.{before_here, before_on, before_end}
-use mathlib.Core.Path.{◌∙◌}
-use native.Mathlib.Omega.{arith}
+use Rattle.std.proofs.Common.{◌∙◌, ap, take, eqb, rules, tests}
+use Rattle.std.proofs.lemmas.Iterator.{YieldsList-from_slice}
+use Rattle.std.proofs.lemmas.Iterator.Search.{position_from_yields_List}
+use Rattle.tokens.proofs.Words.{found_or_all, before_found}
 use Rattle.tokens.proofs.token.before.Goals as goal
 
-pub returns-then-text-i : goal.returns-then-text-i
-returns-then-text-i c = (omega arith, before_here _ _ _ c.loop-i-test.true c.if-text-i.true ∙ c.loop-i.invariant.1)
-
-pub loop-i-preserved : goal.loop-i-preserved
-loop-i-preserved c = (omega arith, before_on _ _ _ c.loop-i-test.true c.if-text-i.false ∙ c.loop-i.invariant.1)
-
 pub returns : goal.returns
-returns c = (omega arith, before_end _ _ _ c.loop-i-test.false ∙ c.loop-i.invariant.1)
+returns c =
+    let t = c.args.text.now in
+    let is = position_from_yields_List (λ x. eqb x c.args.b) _ _ c.position.result c.position.ensures.ran (YieldsList-from_slice t c.iter.ensures.rest) (λ x b q k. search (rules, tests)) in
+    ap (λ n. take n t) ((found_or_all (λ x. eqb x c.args.b) t c.position.result _ is c.unwrap_or-end.ensures).1 ∙ before_found c.args.b t)

@@ -1,15 +1,14 @@
+use Rattle.std.proofs.Common.{◌∙◌, not, rules, tests}
 use mathlib.Core.Bool.{beq}
-use borrow.Author.Tests.{not-true, not-false}
-use Rattle.tokens.proofs.Words.{leading_here, leading_on, leading_end}
-use mathlib.Core.Path.{◌∙◌}
-use native.Mathlib.Omega.{arith}
+use Rattle.std.proofs.lemmas.Iterator.{YieldsList-from_slice}
+use Rattle.std.proofs.lemmas.Iterator.Search.{position_from_yields_List}
+use Rattle.tokens.specs.Token.{is_gap}
+use Rattle.tokens.proofs.Words.{found_or_all, leading_found}
 use Rattle.tokens.proofs.token.leading.Goals as goal
 
-pub returns-then-gap-gaps : goal.returns-then-gap-gaps
-returns-then-gap-gaps c = (omega arith, leading_here _ _ _ c.loop-i-test.true (rw c.gap.ensures at (not-true (beq c.gap.result c.args.gaps) c.if-gap-gaps.true)) ∙ c.loop-i.invariant.1)
-
-pub loop-i-preserved : goal.loop-i-preserved
-loop-i-preserved c = (omega arith, leading_on _ _ _ c.loop-i-test.true (rw c.gap.ensures at (not-false (beq c.gap.result c.args.gaps) c.if-gap-gaps.false)) ∙ c.loop-i.invariant.1)
-
 pub returns : goal.returns
-returns c = (omega arith, leading_end _ _ _ c.loop-i-test.false ∙ c.loop-i.invariant.1)
+returns c =
+    let t = c.args.line.now in
+    let is = position_from_yields_List (λ x. not (beq (is_gap x) c.args.gaps)) _ _ c.position.result c.position.ensures.ran (YieldsList-from_slice t c.iter.ensures.rest) (λ x b q k. search (rules, tests)) in
+    let found = found_or_all (λ x. not (beq (is_gap x) c.args.gaps)) t c.position.result _ is c.unwrap_or.ensures in
+    (found.0, found.1 ∙ leading_found c.args.gaps t)

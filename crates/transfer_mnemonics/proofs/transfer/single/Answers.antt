@@ -8,4 +8,4 @@ returns-then-is_high_half c = search rules
 
 pub returns : goal.returns
 unfolding single_text
-returns c = rw (← c.is_high_half.ensures, c.if-is_high_half.false, ← c.single_n-n.ensures.0) c.moved-2.ensures
+returns c = rw (← c.is_high_half.ensures, c.if-is_high_half.false, ← c.n_of-n.ensures.0) c.moved-2.ensures

@@ -16,13 +16,13 @@ pub returns-then-is_scalar : goal.returns-then-is_scalar
 returns-then-is_scalar c = λ v w. c.watch_scalar.ensures c.args.r.now v w
 
 pub hang_data-hang-requires : goal.hang_data-hang-requires
-hang_data-hang-requires c = the_operation c.args.op c.number-n.result c.numbered-o.result c.number-n.ensures c.numbered-o.ensures
+hang_data-hang-requires c = the_operation c.args.op c.number-n.result c.from-o.result c.number-n.ensures c.from-o.ensures
 
 pub mark_data-known-requires : goal.mark_data-known-requires
-mark_data-known-requires c = the_operation c.args.op c.number-n.result c.numbered-o.result c.number-n.ensures c.numbered-o.ensures
+mark_data-known-requires c = the_operation c.args.op c.number-n.result c.from-o.result c.number-n.ensures c.from-o.ensures
 
 pub process-after-requires : goal.process-after-requires
-process-after-requires c = the_operation c.args.op c.number-n.result c.numbered-o.result c.number-n.ensures c.numbered-o.ensures
+process-after-requires c = the_operation c.args.op c.number-n.result c.from-o.result c.number-n.ensures c.from-o.ensures
 
 pub returns-in-At : goal.returns-in-At
 returns-in-At c = let a = c.args in λ v w. hanging (data_tree false a.op) (state (assembled a.s.now a.r.now a.x false) v) (map_in a.marks w) _ (rw c.in-At.is at (c.hang_data-hang.ensures (state (assembled a.s.now a.r.now a.x false) v) w))

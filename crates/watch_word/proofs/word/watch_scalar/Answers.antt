@@ -6,19 +6,19 @@ use Rattle.watch_word.proofs.Scalar.{scalar_seen}
 use Rattle.watch_word.proofs.word.watch_scalar.Goals as goal
 
 pub returns-then-bit : goal.returns-then-bit
-returns-then-bit c = let a = c.args in λ r v u. scalar_seen a.op a.n _ c.requires.0 refl c.requires.2 binary64 (double_tree a.op a.n _ c.requires.0 refl c.requires.1 c.bit.result c.bit.ensures c.if-bit.true) a.s.now r a.x _ a.marks _ _ c.done.result c.done.ensures v u (c.requires.4 u) c.watched_double-y.ensures
+returns-then-bit c = let a = c.args in λ r v u. scalar_seen a.op a.n _ c.requires.0 refl c.requires.2 binary64 (double_tree a.op a.n _ c.requires.0 refl c.requires.1 c.bit.result c.bit.ensures c.if-bit.true) a.s.now r a.x _ a.marks _ _ c.done.result c.done.ensures v u (c.requires.4 u) c.watched_scalar-y.ensures
 
 pub returns-then-n-lt10 : goal.returns-then-n-lt10
-returns-then-n-lt10 c = let a = c.args in λ r v u. scalar_seen a.op a.n _ c.requires.0 refl c.requires.2 binary32 (single_tree a.op a.n _ c.requires.0 refl c.requires.1 c.bit.result c.bit.ensures c.if-bit.false) a.s.now r a.x _ a.marks _ _ c.done-then-n-lt10.result c.done-then-n-lt10.ensures v u (c.requires.4 u) c.watched_single-y.ensures
+returns-then-n-lt10 c = let a = c.args in λ r v u. scalar_seen a.op a.n _ c.requires.0 refl c.requires.2 binary32 (single_tree a.op a.n _ c.requires.0 refl c.requires.1 c.bit.result c.bit.ensures c.if-bit.false) a.s.now r a.x _ a.marks _ _ c.done-then-n-lt10.result c.done-then-n-lt10.ensures v u (c.requires.4 u) c.watched_scalar-y-then-n-lt10.ensures
 
-pub watch_double-y-requires : goal.watch_double-y-requires
-watch_double-y-requires c = let a = c.args in (is_unary a.op a.n c.numbered.result c.requires.0 c.numbered.ensures (omega arith), c.requires.3)
+pub watched_unary-y-requires : goal.watched_unary-y-requires
+watched_unary-y-requires c = let a = c.args in (is_unary a.op a.n c.from.result c.requires.0 c.from.ensures (omega arith), c.requires.3)
 
 pub returns-then-bit-2 : goal.returns-then-bit-2
-returns-then-bit-2 c = let a = c.args in λ r v u. scalar_seen a.op a.n c.numbered.result c.requires.0 c.numbered.ensures c.requires.2 binary64 (double_tree a.op a.n c.numbered.result c.requires.0 c.numbered.ensures c.requires.1 c.bit-2.result c.bit-2.ensures c.if-bit-2.true) a.s.now r a.x _ a.marks _ _ c.done-then-bit-2.result c.done-then-bit-2.ensures v u (c.requires.4 u) c.watch_double-y.ensures
+returns-then-bit-2 c = let a = c.args in λ r v u. scalar_seen a.op a.n c.from.result c.requires.0 c.from.ensures c.requires.2 binary64 (double_tree a.op a.n c.from.result c.requires.0 c.from.ensures c.requires.1 c.bit-2.result c.bit-2.ensures c.if-bit-2.true) a.s.now r a.x _ a.marks _ _ c.done-then-bit-2.result c.done-then-bit-2.ensures v u (c.requires.4 u) c.watched_unary-y.ensures
 
-pub watch_single-y-requires : goal.watch_single-y-requires
-watch_single-y-requires c = let a = c.args in (is_unary a.op a.n c.numbered-2.result c.requires.0 c.numbered-2.ensures (omega arith), c.requires.3)
+pub watched_unary-y-requires-2 : goal.watched_unary-y-requires-2
+watched_unary-y-requires-2 c = let a = c.args in (is_unary a.op a.n c.from-2.result c.requires.0 c.from-2.ensures (omega arith), c.requires.3)
 
 pub returns : goal.returns
-returns c = let a = c.args in λ r v u. scalar_seen a.op a.n c.numbered-2.result c.requires.0 c.numbered-2.ensures c.requires.2 binary32 (single_tree a.op a.n c.numbered-2.result c.requires.0 c.numbered-2.ensures c.requires.1 c.bit-2.result c.bit-2.ensures c.if-bit-2.false) a.s.now r a.x _ a.marks _ _ c.done-2.result c.done-2.ensures v u (c.requires.4 u) c.watch_single-y.ensures
+returns c = let a = c.args in λ r v u. scalar_seen a.op a.n c.from-2.result c.requires.0 c.from-2.ensures c.requires.2 binary32 (single_tree a.op a.n c.from-2.result c.requires.0 c.from-2.ensures c.requires.1 c.bit-2.result c.bit-2.ensures c.if-bit-2.false) a.s.now r a.x _ a.marks _ _ c.done-2.result c.done-2.ensures v u (c.requires.4 u) c.watched_unary-y-2.ensures

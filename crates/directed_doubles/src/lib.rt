@@ -1,4 +1,0 @@
-// The arithmetic of one step on doubles by a rounding mode, and what it raises.
-#![tactic(auto)]
-
-pub mod double;

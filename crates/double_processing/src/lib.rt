@@ -1,4 +1,0 @@
-// Data processing on coprocessor 11 over lent singles.
-#![tactic(auto)]
-
-pub mod double;

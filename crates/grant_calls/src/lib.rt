@@ -1,4 +1,0 @@
-// The grants of a period over the buffers of the C interface.
-#![tactic(auto)]
-
-pub mod grant;

@@ -1,0 +1,11 @@
+use Rattle.integers.proofs.Laws.{to_integer_raises_lt}
+use Rattle.integer_steps.proofs.Steps.{truncate_lem}
+use Rattle.integer_steps.proofs.integer.truncate.Goals as goal
+
+pub raise-requires : goal.raise-requires
+raise-requires g c = rw c.to_integer-x.ensures.1 (to_integer_raises_lt _ _ _ _)
+
+pub returns : goal.returns
+returns g c =
+    rw (c.raise.ensures, c.set_single.ensures, c.to_integer-x.ensures.0, c.to_integer-x.ensures.1, c.get.ensures)
+    (truncate_lem g.R.Word.Precision.format c.args.signed _ _ c.args.fpscr c.args.s.now)

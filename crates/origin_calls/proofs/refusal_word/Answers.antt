@@ -1,8 +1,0 @@
-use borrow.Author.Tests.{eq-eqb, ne_eqb}
-use Rattle.origin_calls.proofs.refusal_word.Goals as goal
-
-pub returns-then-refusal-eq0 : goal.returns-then-refusal-eq0
-returns-then-refusal-eq0 c = rw (eq-eqb _ _ c.if-refusal-eq0.true)
-
-pub returns : goal.returns
-returns c = rw (ne_eqb _ _ c.if-refusal-eq0.false)

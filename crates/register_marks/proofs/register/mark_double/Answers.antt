@@ -1,9 +1,0 @@
-use mathlib.Core.Bool.{true, false}
-use Rattle.register_marks.proofs.Doubles.{both_marked}
-use Rattle.register_marks.proofs.register.mark_double.Goals as goal
-
-pub returns-then-b : goal.returns-then-b
-returns-then-b c w = let a = c.args in rw (c.with_two.ensures, c.if-b.true) (both_marked a.marks w a.x.0 true true)
-
-pub returns : goal.returns
-returns c w = let a = c.args in rw (c.with_two-2.ensures, c.if-b.false) (both_marked a.marks w a.x.0 false false)

@@ -1,7 +1,0 @@
-use native.Mathlib.Omega.{arith}
-use Rattle.place_marks.proofs.Places.{place-single}
-use Rattle.registers.specs.Registers.{single_index}
-use Rattle.register_marks.proofs.register.mark_single.Goals as goal
-
-pub returns : goal.returns
-returns c w = rw (place-single (single_index c.args.x.0) (omega arith)) at (c.set_known.ensures w)

@@ -1,0 +1,2 @@
+-- Laws of the crate's proofs.
+pub mod Steps

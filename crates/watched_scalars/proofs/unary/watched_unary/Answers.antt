@@ -1,0 +1,61 @@
+use mathlib.Core.Path.{refl}
+use mathlib.Core.Bool.{true, false}
+use mathlib.Core.Logic.{inl, inr}
+use Rattle.machine.specs.Place.{control_of}
+use Rattle.sign_steps.specs.declared.sign.SignOperation.TheVariants.{Copy, Absolute, Negate}
+use Rattle.sign_steps.specs.Sign.{sign_step}
+use Rattle.root_steps.specs.Root.{root_step}
+use Rattle.processing.specs.Data.{named_tree}
+use Rattle.processing.proofs.Arms.{copied, absolute, negated, rooted, compared, compared_zero, converted, from_integer, rounded, truncated}
+use Rattle.processing_marks.proofs.Done as D
+use Rattle.scalars.proofs.Scalar.{one_step, one_step_with, unary_only}
+use Rattle.watched_scalars.proofs.Marks.{sign_Marked, root_Marked, handed_on}
+use Rattle.watched_scalars.proofs.unary.watched_unary.Goals as goal
+
+pub returns-in-Fcpy : goal.returns-in-Fcpy
+returns-in-Fcpy g c = let a = c.args in handed_on (named_tree _ a.op a.o) a.op a.s.now a.fpscr _ _ a.marks _ _ c.after.ensures (copied _ a.op a.s.now a.fpscr _ a.o c.d_of.ensures.0 c.m_of.ensures.0 c.in-Fcpy.is (one_step _ a.op a.s.now a.fpscr _ c.requires.1 (sign_step _ Copy) _ _ c.sign.ensures)) (sign_Marked _ a.op a.fpscr a.marks _ c.requires.1 a.o (rw c.in-Fcpy.is (inl refl)) c.mark_sign.ensures)
+
+pub returns-in-Fabs : goal.returns-in-Fabs
+returns-in-Fabs g c = let a = c.args in handed_on (named_tree _ a.op a.o) a.op a.s.now a.fpscr _ _ a.marks _ _ c.after-in-Fabs.ensures (absolute _ a.op a.s.now a.fpscr _ a.o c.d_of-in-Fabs.ensures.0 c.m_of-in-Fabs.ensures.0 c.in-Fabs.is (one_step _ a.op a.s.now a.fpscr _ c.requires.1 (sign_step _ Absolute) _ _ c.sign-in-Fabs.ensures)) (sign_Marked _ a.op a.fpscr a.marks _ c.requires.1 a.o (rw c.in-Fabs.is (inr (inl refl))) c.mark_sign-in-Fabs.ensures)
+
+pub returns-in-Fneg : goal.returns-in-Fneg
+returns-in-Fneg g c = let a = c.args in handed_on (named_tree _ a.op a.o) a.op a.s.now a.fpscr _ _ a.marks _ _ c.after-in-Fneg.ensures (negated _ a.op a.s.now a.fpscr _ a.o c.d_of-in-Fneg.ensures.0 c.m_of-in-Fneg.ensures.0 c.in-Fneg.is (one_step _ a.op a.s.now a.fpscr _ c.requires.1 (sign_step _ Negate) _ _ c.sign-in-Fneg.ensures)) (sign_Marked _ a.op a.fpscr a.marks _ c.requires.1 a.o (rw c.in-Fneg.is (inr (inr refl))) c.mark_sign-in-Fneg.ensures)
+
+pub returns-in-Fsqrt : goal.returns-in-Fsqrt
+returns-in-Fsqrt g c = let a = c.args in handed_on (named_tree _ a.op a.o) a.op a.s.now a.fpscr _ _ a.marks _ _ c.after-in-Fsqrt.ensures (rooted _ a.op a.s.now a.fpscr _ a.o c.d_of-in-Fsqrt.ensures.0 c.m_of-in-Fsqrt.ensures.0 c.in-Fsqrt.is _ (one_step_with _ a.op a.s.now a.fpscr _ c.requires.1 (root_step _ (control_of a.fpscr)) _ _ _ (rw c.control_of.ensures at c.root-next.ensures))) (root_Marked _ a.op a.fpscr a.marks _ c.requires.1 a.o c.in-Fsqrt.is c.mark_root.ensures)
+
+pub returns-in-Fcmp : goal.returns-in-Fcmp
+returns-in-Fcmp g c = let a = c.args in handed_on (named_tree _ a.op a.o) a.op a.s.now a.fpscr _ _ a.marks _ _ c.after-in-Fcmp.ensures (compared _ a.op a.s.now a.fpscr _ a.o c.d_of-in-Fcmp.ensures.0 c.m_of-in-Fcmp.ensures.0 false c.in-Fcmp.is _ c.compare-next.ensures) (D.compared _ a.op a.fpscr a.marks _ a.o (rw c.in-Fcmp.is (inl refl)) c.mark_compare.ensures)
+
+pub returns-in-Fcmpe : goal.returns-in-Fcmpe
+returns-in-Fcmpe g c = let a = c.args in handed_on (named_tree _ a.op a.o) a.op a.s.now a.fpscr _ _ a.marks _ _ c.after-in-Fcmpe.ensures (compared _ a.op a.s.now a.fpscr _ a.o c.d_of-in-Fcmpe.ensures.0 c.m_of-in-Fcmpe.ensures.0 true c.in-Fcmpe.is _ c.compare-next-in-Fcmpe.ensures) (D.compared _ a.op a.fpscr a.marks _ a.o (rw c.in-Fcmpe.is (inr refl)) c.mark_compare-in-Fcmpe.ensures)
+
+pub returns-in-Fcmpz : goal.returns-in-Fcmpz
+returns-in-Fcmpz g c = let a = c.args in handed_on (named_tree _ a.op a.o) a.op a.s.now a.fpscr _ _ a.marks _ _ c.after-in-Fcmpz.ensures (compared_zero _ a.op a.s.now a.fpscr _ a.o c.d_of-in-Fcmpz.ensures.0 false c.in-Fcmpz.is _ c.compare_zero-next.ensures) (D.compared_zero _ a.op a.fpscr a.marks _ a.o (rw c.in-Fcmpz.is (inl refl)) c.mark_compare_zero.ensures)
+
+pub returns-in-Fcmpez : goal.returns-in-Fcmpez
+returns-in-Fcmpez g c = let a = c.args in handed_on (named_tree _ a.op a.o) a.op a.s.now a.fpscr _ _ a.marks _ _ c.after-in-Fcmpez.ensures (compared_zero _ a.op a.s.now a.fpscr _ a.o c.d_of-in-Fcmpez.ensures.0 true c.in-Fcmpez.is _ c.compare_zero-next-in-Fcmpez.ensures) (D.compared_zero _ a.op a.fpscr a.marks _ a.o (rw c.in-Fcmpez.is (inr refl)) c.mark_compare_zero-in-Fcmpez.ensures)
+
+pub returns-in-Fcvt : goal.returns-in-Fcvt
+returns-in-Fcvt g c = let a = c.args in handed_on (named_tree _ a.op a.o) a.op a.s.now a.fpscr _ _ a.marks _ _ c.after-in-Fcvt.ensures (converted _ a.op a.s.now a.fpscr _ a.o c.in-Fcvt.is _ c.convert-next.ensures) (D.converted _ a.op a.fpscr a.marks _ a.o c.in-Fcvt.is c.mark_convert.ensures)
+
+pub returns-in-Fuito : goal.returns-in-Fuito
+returns-in-Fuito g c = let a = c.args in handed_on (named_tree _ a.op a.o) a.op a.s.now a.fpscr _ _ a.marks _ _ c.after-in-Fuito.ensures (from_integer _ a.op a.s.now a.fpscr _ a.o c.d_of-in-Fuito.ensures.0 c.m_of-in-Fuito.ensures.0 false c.in-Fuito.is _ c.from_integer-next.ensures) (D.from_integer _ a.op a.fpscr a.marks _ a.o (rw c.in-Fuito.is (inl refl)) c.mark_from_integer.ensures)
+
+pub returns-in-Fsito : goal.returns-in-Fsito
+returns-in-Fsito g c = let a = c.args in handed_on (named_tree _ a.op a.o) a.op a.s.now a.fpscr _ _ a.marks _ _ c.after-in-Fsito.ensures (from_integer _ a.op a.s.now a.fpscr _ a.o c.d_of-in-Fsito.ensures.0 c.m_of-in-Fsito.ensures.0 true c.in-Fsito.is _ c.from_integer-next-in-Fsito.ensures) (D.from_integer _ a.op a.fpscr a.marks _ a.o (rw c.in-Fsito.is (inr refl)) c.mark_from_integer-in-Fsito.ensures)
+
+pub returns-in-Ftoui : goal.returns-in-Ftoui
+returns-in-Ftoui g c = let a = c.args in handed_on (named_tree _ a.op a.o) a.op a.s.now a.fpscr _ _ a.marks _ _ c.after-in-Ftoui.ensures (rounded _ a.op a.s.now a.fpscr _ a.o c.d_of-in-Ftoui.ensures.0 c.m_of-in-Ftoui.ensures.0 false c.in-Ftoui.is _ c.round-next.ensures) (D.rounded _ a.op a.fpscr a.marks _ a.o (rw c.in-Ftoui.is (inl refl)) c.mark_rounded.ensures)
+
+pub returns-in-Ftouiz : goal.returns-in-Ftouiz
+returns-in-Ftouiz g c = let a = c.args in handed_on (named_tree _ a.op a.o) a.op a.s.now a.fpscr _ _ a.marks _ _ c.after-in-Ftouiz.ensures (truncated _ a.op a.s.now a.fpscr _ a.o c.d_of-in-Ftouiz.ensures.0 c.m_of-in-Ftouiz.ensures.0 false c.in-Ftouiz.is _ c.truncate-next.ensures) (D.truncated _ a.op a.fpscr a.marks _ a.o (rw c.in-Ftouiz.is (inl refl)) c.mark_truncated.ensures)
+
+pub returns-in-Ftosi : goal.returns-in-Ftosi
+returns-in-Ftosi g c = let a = c.args in handed_on (named_tree _ a.op a.o) a.op a.s.now a.fpscr _ _ a.marks _ _ c.after-in-Ftosi.ensures (rounded _ a.op a.s.now a.fpscr _ a.o c.d_of-in-Ftosi.ensures.0 c.m_of-in-Ftosi.ensures.0 true c.in-Ftosi.is _ c.round-next-in-Ftosi.ensures) (D.rounded _ a.op a.fpscr a.marks _ a.o (rw c.in-Ftosi.is (inr refl)) c.mark_rounded-in-Ftosi.ensures)
+
+pub returns-in-Ftosiz : goal.returns-in-Ftosiz
+returns-in-Ftosiz g c = let a = c.args in handed_on (named_tree _ a.op a.o) a.op a.s.now a.fpscr _ _ a.marks _ _ c.after-in-Ftosiz.ensures (truncated _ a.op a.s.now a.fpscr _ a.o c.d_of-in-Ftosiz.ensures.0 c.m_of-in-Ftosiz.ensures.0 true c.in-Ftosiz.is _ c.truncate-next-in-Ftosiz.ensures) (D.truncated _ a.op a.fpscr a.marks _ a.o (rw c.in-Ftosiz.is (inr refl)) c.mark_truncated-in-Ftosiz.ensures)
+
+pub returns-in_default : goal.returns-in_default
+returns-in_default g c = unary_only c.args.o c.in_default.in_default-own.keys16 c.requires.0
