@@ -1,6 +1,6 @@
 // A text of at most 128 bytes that grows at its end. What does not fit is left out.
 // No `fmt::Write`: a `write!` promises nothing of the bytes, and each piece here does.
-ghost use Rattle.std.specs.Prelude.{◌≡◌, [], ◌∷◌, ◌++◌, ◌%◌, ◌^◌};
+ghost use Rattle.std.specs.Prelude.{◌≡◌, ◌≤◌, [], ◌∷◌, ◌++◌, ◌%◌, ◌^◌, length};
 ghost use Rattle.numerals.specs.Number.{hex_text, decimal_text};
 ghost use Rattle.place_names.specs.Place.{place_text};
 ghost use Rattle.text.specs.Text.{clip};
@@ -9,8 +9,8 @@ use numerals::number::{write_digits, zeros};
 use place_names::place::{CONTROL, CORE, EXC, EXCEPTIONS, FLAGS, NZCV, WINDOW};
 use std::marker::Model;
 
-// Neither `Copy` nor `PartialEq`: the view forgets what stands behind the count. No `Clone`, which could run out of memory.
-#[derive(Debug, Drop)]
+// What stands behind the count is 0, so that the bytes that are taken give the fields back.
+#[derive(Clone, Copy, Debug)]
 pub struct Text {
     bytes: [u8; 128],
     count: usize,
@@ -18,15 +18,19 @@ pub struct Text {
 
 // Clauses see the bytes that are taken.
 impl Model for Text {
-    ghost use Rattle.std.specs.Prelude.{ℕ, List, ◌≤◌};
+    ghost use Rattle.std.specs.Prelude.{ℕ, List};
 
     ghost Value = { List ℕ };
 
-    ghost use Rattle.text.specs.Text.{text_of};
+    ghost use Rattle.text.specs.Text.{text_of, IsText, of_bytes};
 
     ghost view = { text_of };
 
-    ghost invariant = { λ t. t.count ≤ 128 };
+    ghost invariant = { IsText };
+
+    ghost inverse = { of_bytes };
+
+    ghost inverse_ok = { λ a h. h.1 };
 }
 
 impl Text {
@@ -39,9 +43,10 @@ impl Text {
         }
     }
 
-    // The bytes that are taken.
+    // The bytes that are taken, at most 128.
     pub fn as_bytes(&self) -> &[u8]
-        ensures { result.now ≡ self.now }
+        ensures bytes { result.now ≡ self.now }
+        ensures room { length result.now ≤ 128 }
     {
         &self.bytes[..self.count]
     }
