@@ -23,32 +23,28 @@ pub struct Window {
     pub words: usize,
 }
 
-// The window, if one was given, and the count of instruction words.
+// The window, whether one was given, and the count of instruction words. No `Option`: `take_line` says what a line comes to where none was given, whatever the
+// window has.
 #[derive(Clone, Copy, Debug, PartialEq, Eq)]
 pub struct Layout {
-    pub window: Option<Window>,
+    pub window: Window,
+    pub given: bool,
     pub count: usize,
 }
 
 impl Layout {
-    // The window's base, and 0 without a window.
+    // The window's base.
     pub fn base(self) -> u32
         ensures { result ≡ (layout_of self).base }
     {
-        match self.window {
-            Some(window) => window.base,
-            None => 0,
-        }
+        self.window.base
     }
 
-    // The window's count of words, and 0 without a window.
+    // The window's count of words.
     pub fn words(self) -> usize
         ensures { result ≡ (layout_of self).words }
     {
-        match self.window {
-            Some(window) => window.words,
-            None => 0,
-        }
+        self.window.words
     }
 }
 
@@ -153,12 +149,13 @@ fn mark_all_unknown(
 fn set_window(layout: Layout, base: u32, words: usize) -> Result<Layout, Mistake>
     ensures { told result ≡ window_step base words (layout_of layout) }
 {
-    if layout.window.is_some() {
+    if layout.given {
         return Err(Mistake::Again);
     }
     match window_limit(base, words) {
         0 => Ok(Layout {
-            window: Some(Window { base, words }),
+            window: Window { base, words },
+            given: true,
             ..layout
         }),
         limit => Err(Mistake::Refused(limit)),

@@ -5,7 +5,7 @@ ghost use Rattle.script.specs.Item.{buffers};
 ghost use Rattle.script.specs.Taken.{taken_as};
 ghost use Rattle.script.specs.Text.{reading, text_reading};
 
-use super::item::{Layout, take_line};
+use super::item::{Layout, Window, take_line};
 use super::mistake::MistakeAt;
 use machine::place::WINDOW;
 use tokens::token::{before, content};
@@ -22,7 +22,8 @@ pub fn take(
     ensures { reading (taken_as result) (buffers state.new (map_in marks.new window_marks.new) window.new list.new) ≡ text_reading text.now (buffers state.old (map_in marks.old window_marks.old) window.old list.old) }
 {
     let mut layout = Layout {
-        window: None,
+        window: Window { base: 0, words: 0 },
+        given: false,
         count: 0,
     };
     let mut line: usize = 1;
