@@ -15,6 +15,7 @@ use Rattle.rounding.specs.Rounding.{cut_to, rounded, limit, dropped, exact, over
 use Rattle.rounding.specs.declared.rounding.Rounding.{Rounding}
 use Rattle.rounding.proofs.Cutting.{cut_le}
 use Rattle.rounding.specs.declared.rounding.Rounding.TheVariants.{Nearest}
+use Rattle.packing.specs.Pack.{IsSettled}
 use Rattle.exceptions.specs.Exceptions.{invalid, inexact, settled_exceptions, fraction_exceptions}
 use Rattle.integers.proofs.Whole.{double_any, double_exact}
 use Rattle.integers.specs.Integer.{from_integer, from_integer_exceptions, outside, integer_exceptions, to_integer_exceptions}
@@ -74,6 +75,15 @@ module _ (mode : Rounding) (f : Format) (s : Bool) (n : ℕ) (h : n < 2 ^ 53) wh
   unfolding fraction_exceptions
   integer_fraction =
       sym (ap (λ (o : Bool). settled_exceptions (exact f n 1) o (tiny f n 1)) never_over ∙ ap (settled_exceptions (exact f n 1) false) never_tiny)
+
+-- a double settled to nearest is settled in every mode, and nothing is dropped from it
+pub double_settled : (mode : Rounding) (s : Bool) (n bits : ℕ) (x o t : Bool) → n < 2 ^ 53 → IsSettled Nearest binary64 s n 1 bits x o t → IsSettled mode binary64 s n 1 bits true false false
+double_settled mode s n bits x o t h p = record {
+  bits_are = p.bits_are ∙ double_any mode s n h;
+  exact_is = sym (double_exact n h);
+  over_is = sym (never_over mode binary64 s n h);
+  tiny_is = sym (never_tiny mode binary64 s n h);
+}
 
 -- it is what rounding raises, in every mode
 pub from_integer_raises : (f : Format) (mode : Rounding) (signed : Bool) (w : ℕ) → w < 2 ^ 32

@@ -3,7 +3,7 @@ use mathlib.Core.Path.{◌≡◌, refl, sym, ap, ◌∙◌, subst}
 use mathlib.Core.Logic.{inl, inr}
 use mathlib.Core.Bool.{Bool, true, false, ◌&&◌, cond, and-false}
 use Prim.Native.Nat.{ℕ, ◌+◌, ◌-◌, ◌*◌, ◌/◌, ◌%◌, ◌^◌, ◌≤◌, ◌<◌, min}
-use native.Mathlib.Nat.{le_trans, le_of_eq, le_of_lt, one-mul, min-eq_left, mul_assoc, mul-le-mul, le-div_iff_mul-le, div-one, mod-one, eq-zero-or-pos}
+use native.Mathlib.Nat.{le_trans, le_of_eq, le_of_lt, one-mul, mul-one, min-eq_left, mul_assoc, mul-le-mul, le-div_iff_mul-le, div-one, mod-one, eq-zero-or-pos}
 use native.Mathlib.Omega.{arith}
 use lib.Count.{count_leading_zeros}
 use lib.Dec.{leb, ltb, eqb, lit≤, lit<}
@@ -34,6 +34,29 @@ use Rattle.rounding.proofs.Lifting.{moved_is, lifted}
 
 pub whole_zero : (mode : Rounding) (f : Format) (s : Bool) (n bits : ℕ) (x o t : Bool) → n ≡ 0 → IsSettled mode f s (0 * 2 ^ 0) (2 ^ 2209) bits x o t → IsSettled mode f s n 1 bits x o t
 whole_zero mode f s n bits x o t e p = settled_same mode f s (0 * 2 ^ 0) (2 ^ 2209) n 1 bits x o t (pow_pos 2209) (lit< tt) (sym (ap (λ (z : ℕ). z * 2 ^ 2209) e)) p
+
+pub whole_some : (mode : Rounding) (f : Format) (s : Bool) (n r bits : ℕ) (x o t : Bool) → Lifted n r
+    → IsSettled mode f s (n * 2 ^ r % 2 ^ 64 * 512 * 2 ^ (2200 - r)) (2 ^ 2209) bits x o t → IsSettled mode f s n 1 bits x o t
+whole_some mode f s n r bits x o t l p =
+    settled_same mode f s (n * 2 ^ r % 2 ^ 64 * 512 * 2 ^ (2200 - r)) (2 ^ 2209) n 1 bits x o t (pow_pos 2209) (lit< tt)
+    (mul-one (n * 2 ^ r % 2 ^ 64 * 512 * 2 ^ (2200 - r))
+    ∙ ap (λ (z : ℕ). z * 512 * 2 ^ (2200 - r)) (moved_is n r l)
+    ∙ ap (λ (z : ℕ). z * 2 ^ (2200 - r)) (mul_assoc n (2 ^ r) (2 ^ 9) ∙ ap (λ (z : ℕ). n * z) (sym (pow-add 2 r 9)))
+    ∙ mul_assoc n (2 ^ (r + 9)) (2 ^ (2200 - r))
+    ∙ ap (λ (z : ℕ). n * z) (sym (pow-add 2 (r + 9) (2200 - r)) ∙ ap (λ (z : ℕ). 2 ^ z) (exps r l.most))) p
+  where
+    exps : (r : ℕ) → r ≤ 52 → r + 9 + (2200 - r) ≡ 2209
+    exps r h = omega arith
+
+-- the 53 digits at the top of 62
+pub whole_ready : (n r : ℕ) → Lifted n r → (n * 2 ^ r % 2 ^ 64 * 512 < 2 ^ 62) × (2 ^ 61 ≤ n * 2 ^ r % 2 ^ 64 * 512)
+whole_ready n r l = (lower _ (subst (λ (z : ℕ). z < 2 ^ 53) (sym (moved_is n r l)) l.below), upper _ (subst (λ (z : ℕ). 2 ^ 52 ≤ z) (sym (moved_is n r l)) l.least))
+  where
+    lower : (z : ℕ) → z < 2 ^ 53 → z * 512 < 2 ^ 62
+    lower z h = omega arith
+
+    upper : (z : ℕ) → 2 ^ 52 ≤ z → 2 ^ 61 ≤ z * 512
+    upper z h = omega arith
 
 -- of the 53 digits some are dropped, as a double none
 module _ (mode : Rounding) (f : Format) (s : Bool) (n r kept : ℕ) (x : Bool) (l : Lifted n r) (p : IsCut mode s (n * 2 ^ r % 2 ^ 64) (2 ^ (53 - prec f)) kept x) where
@@ -132,6 +155,21 @@ double_exact n h = doubled _ n h (λ k m e u l g.
     ∙ ap (λ (z : ℕ). eqb z 0) (mod-one m))
 
 -- ---- by the sign of a word
+
+value_is : (f : Format) (mode : Rounding) (g n : Bool) (signed : Bool) (w : ℕ) → signed ≡ g → leb (2 ^ 31) w ≡ n
+    → from_integer f mode signed w ≡ to_bits f (cond (g && n) (rounded mode f true (2 ^ 32 - w) 1) (rounded mode f false w 1))
+unfolding from_integer
+value_is f mode g n signed w p q = rw (p, q)
+
+module _ (f : Format) (mode : Rounding) (signed : Bool) (w bits : ℕ) where
+  pub below_zero : signed ≡ true → 2 ^ 31 ≤ w → bits ≡ to_bits f (rounded mode f true (2 ^ 32 - w) 1) → bits ≡ from_integer f mode signed w
+  below_zero e h p = p ∙ sym (value_is f mode true true signed w e (le-leb (2 ^ 31) w h))
+
+  pub signed_up : signed ≡ true → w < 2 ^ 31 → bits ≡ to_bits f (rounded mode f false w 1) → bits ≡ from_integer f mode signed w
+  signed_up e h p = p ∙ sym (value_is f mode true false signed w e (lt-leb (2 ^ 31) w h))
+
+  pub unsigned : signed ≡ false → bits ≡ to_bits f (rounded mode f false w 1) → bits ≡ from_integer f mode signed w
+  unsigned e p = p ∙ sym (value_is f mode false (leb (2 ^ 31) w) signed w e refl)
 
 -- where the word's sign is found by one test
 module _ (f : Format) (signed : Bool) (w : ℕ) (negative : Bool) (e : (signed && leb (2 ^ 31) w) ≡ negative) where

@@ -1,9 +1,9 @@
 // Integers' words as floats, by integer work on the bits.
-ghost use Rattle.std.specs.Prelude.{◌≡◌, cond, ◌-◌, ◌<◌, ◌^◌};
+ghost use Rattle.std.specs.Prelude.{◌≡◌, cond, ◌<◌, ◌^◌};
 ghost use Rattle.std.specs.Float.{binary64};
-ghost use Rattle.std.specs.Float.Ieee.{prec};
 ghost use Rattle.packing.specs.Pack.{IsSettled};
-ghost use Rattle.rounding.specs.Rounding.{rounding_of, IsCut};
+ghost use Rattle.rounding.specs.Lift.{Lifted};
+ghost use Rattle.rounding.specs.Rounding.{rounding_of};
 ghost use Rattle.rounding.specs.declared.rounding.Rounding.{Rounding};
 ghost use Rattle.exceptions.specs.Exceptions.{inexact};
 ghost use Rattle.integers.specs.Integer.{from_integer, from_integer_exceptions};
@@ -13,31 +13,42 @@ use floats::precision::Precision;
 use narrowing::narrow::shorten;
 use packing::pack::{Settled, settle, sign};
 use rounding::lift::lift;
-use rounding::rounding::{Rounded, Rounding, rounding_of};
+use rounding::rounding::{Rounding, rounding_of};
 
-// A width and how 53 digits come to the number of digits that it keeps: a single drops 29 of them, a double none.
+// A width, and how a whole number comes to a word of it, rounded, once it is moved up to 53 digits.
 pub trait FromInteger: Precision {
-    fn fitted(control: u32, negative: bool, m: u64) -> Rounded
-        requires { m < 2 ^ 53 }
-        ensures { IsCut (rounding_of control) negative m (2 ^ (53 - prec Self.format)) result.kept result.exact };
+    fn fitted(control: u32, negative: bool, n: u64, up: u64) -> Settled<Self>
+        requires { (n < 2 ^ 53) × Lifted n up }
+        ensures { IsSettled (rounding_of control) Self.format negative n 1 (Self.number result.bits) result.exact result.over result.tiny };
 }
 
+// As a single it drops 29 of the 53 digits, in one cut, and is never too large.
 impl FromInteger for u32 {
-    fn fitted(control: u32, negative: bool, m: u64) -> Rounded {
-        shorten(control, negative, m)
-    }
-}
-
-impl FromInteger for u64 {
-    fn fitted(_control: u32, _negative: bool, m: u64) -> Rounded {
-        Rounded {
-            kept: m,
-            exact: true,
+    fn fitted(control: u32, negative: bool, n: u64, up: u64) -> Settled<u32> {
+        let c = shorten(control, negative, n << up);
+        Settled {
+            bits: (sign::<u32>(negative) + ((178 - up) * 0x80_0000 + c.kept)) as u32,
+            exact: c.exact,
+            over: false,
+            tiny: false,
         }
     }
 }
 
-// A whole number as a float, rounded. It is never too large.
+// A double keeps all 53, so that no mode changes it.
+impl FromInteger for u64 {
+    fn fitted(_control: u32, negative: bool, n: u64, up: u64) -> Settled<u64> {
+        let r = settle(Rounding::Nearest, negative, (n << up) * 512, 2200 - up);
+        Settled {
+            bits: r.bits,
+            exact: true,
+            over: false,
+            tiny: false,
+        }
+    }
+}
+
+// A whole number as a float, rounded.
 fn whole<W: FromInteger>(control: u32, negative: bool, n: u64) -> Settled<W>
     requires { n < 2 ^ 53 }
     ensures { IsSettled (rounding_of control) W.format negative n 1 (W.number result.bits) result.exact result.over result.tiny }
@@ -46,14 +57,7 @@ fn whole<W: FromInteger>(control: u32, negative: bool, n: u64) -> Settled<W>
         return settle(rounding_of(control), negative, 0, 0);
     }
     let up = lift(n);
-    let c = W::fitted(control, negative, n << up);
-    let size = (W::PLACES + 53 - W::DIGITS - up) * W::LEAST + c.kept;
-    Settled {
-        bits: W::of_wide(sign::<W>(negative) + size),
-        exact: c.exact,
-        over: false,
-        tiny: false,
-    }
+    W::fitted(control, negative, n, up)
 }
 
 // It is inexact where something was left.
