@@ -1,11 +1,14 @@
 -- What a text has before its first space.
-use Prim.Native.Nat.{ℕ, zero, suc, ◌+◌, ◌≤◌}
+use Prim.Native.Nat.{ℕ, zero, suc, ◌+◌, ◌≤◌, ◌<◌}
 use native.Mathlib.Omega.{arith}
-use mathlib.Core.Path.{◌≡◌, refl, ◌∙◌, ap}
+use native.Mathlib.Numerals.{add-one}
+use mathlib.Core.Path.{◌≡◌, refl, sym, ◌∙◌, ap}
 use mathlib.Core.Bool.{Bool, true, false, cond}
 use mathlib.Core.List.{List, [], ◌∷◌, ◌++◌}
+use borrow.Author.Tests.{eq-eqb, ne_eqb}
 use lib.Dec.{eqb, ltb}
-use lib.ListN.{length, take, length-take}
+use lib.ListN.{length, take, drop, get_or, drop_of_length-le, length-take}
+use lib.Seq.{drop-cons, take_all}
 use Rattle.std.proofs.Common.{Option, Some, None}
 use Rattle.std.proofs.lemmas.Grind.{common_steps}
 use Rattle.std.proofs.lemmas.List.Recursion.{is_position_or_len}
@@ -74,3 +77,21 @@ counted l = is_position_or_len (λ (k : List ℕ). length (before_space k)) is_s
 
 pub position_or_end : (p len n : ℕ) (r : Option ℕ) → p ≤ len → r ≡ cond (ltb p len) (Some p) None → n ≡ unwrap_or r len → n ≡ p
 position_or_end p len n r h e f = grind (arith, common_steps)
+
+-- byte by byte
+module _ (l : List ℕ) (i : ℕ) (h : i < length l) where
+  pub ends_here : get_or l i 0 ≡ 32 → before_space (drop i l) ≡ []
+  unfolding before_space
+  ends_here e = rw (drop-cons l i 0 h, eq-eqb _ _ e)
+
+  pub goes_on : (get_or l i 0 ≡ 32 → ⊥) → before_space (drop i l) ≡ get_or l i 0 ∷ before_space (drop (i + 1) l)
+  unfolding before_space
+  goes_on e = rw (add-one i, drop-cons l i 0 h, ne_eqb _ _ e)
+
+pub ended_here : (l : List ℕ) (i : ℕ) → length l ≤ i → before_space (drop i l) ≡ []
+unfolding before_space
+ended_here l i h = rw (drop_of_length-le l h)
+
+-- a text's bytes, however many it is said to have
+pub filled : (l : List ℕ) (n : ℕ) → length l ≡ 128 → 128 ≤ n → take 128 l ≡ take n l
+filled l n e h = take_all 128 l (omega arith) ∙ sym (take_all n l (omega arith))

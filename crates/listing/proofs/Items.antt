@@ -16,12 +16,13 @@ use Rattle.std.specs.Option.{ok_or}
 use lib.Pointwise.{pointwise}
 use Rattle.std.proofs.lemmas.Slice.Eq.{slice_eq-Decides}
 use Rattle.std.proofs.lemmas.Bool.Decides.{Decides-eqb}
-use Rattle.place_names.specs.Place.{same}
+use Rattle.place_names.specs.Place.{place_of, same}
 use Rattle.place_names.proofs.Names.{compared}
-use Rattle.numerals.specs.Number.{Number}
+use Rattle.numerals.specs.Number.{Number, Value, Wrong}
+use Rattle.numerals.proofs.Reading.{rest}
 use Rattle.listing.specs.declared.line.Expected.{Expected}
 use Rattle.listing.specs.Line.{start_of, end_of, first_of, rest_of, blank, given, next_place}
-use Rattle.listing.specs.Next.{End}
+use Rattle.listing.specs.Next.{Next, Place, End, Mistake}
 
 leading_few : (g : Bool) (l : List ℕ) → leading_of g l ≤ length l
 leading_few g l = omega (arith, leading_found g l, prefix_len-le-length (λ x. not (not (mathlib.Core.Bool.beq (is_gap x) g))) l)
@@ -84,7 +85,52 @@ module _ (l : List ℕ) {w r : List ℕ} (e : w ≡ take (leading_of false (from
         none (Some y) i = let n : ◌≡◌ {A = ℕ} 0 1 = cc in absurd (omega arith)
         none None i = (cc, refl)
 
+-- the word from its start to its end
+module _ (l : List ℕ) (s e : ℕ) (h : (s ≤ e) × (e ≤ length l) × (s ≡ leading_of true l) × (e ≡ s + leading_of false (drop s l))) where
+  part_is : take (e - s) (drop s l) ≡ take (leading_of false (from_word l)) (from_word l)
+  part_is =
+      ap (λ (k : ℕ). take k (drop s l)) (let q : e - s ≡ leading_of false (drop s l) = omega (arith, h.3) in q)
+      ∙ ap (λ (k : ℕ). take (leading_of false (drop k l)) (drop k l)) h.2
+
+  pub at_end : e ≡ end_of l
+  at_end = h.3 ∙ ap (λ (k : ℕ). k + leading_of false (drop k l)) h.2
+
+  blank_at : s ≡ e → blank l ≡ true
+  blank_at q = eq-eqb (start_of l) (end_of l) (sym h.2 ∙ q ∙ at_end)
+
+  pub blank_not : (s ≡ e → ⊥) → blank l ≡ false
+  blank_not q = ne_eqb (start_of l) (end_of l) (λ k. q (h.2 ∙ k ∙ sym at_end))
+
+  pub length_is : length (first_of l) ≡ length (take (e - s) (drop s l))
+  length_is = ap length (sym (word_is l part_is refl))
+
 -- past a line's end no place is named
 pub next_none : (l : List ℕ) (n : ℕ) → length l ≤ n → End ≡ next_place n (drop n l)
 unfolding next_place leading_of
 next_none l n h = rw (drop_of_length-le l h)
+
+-- the next place, after n bytes of the line
+module _ (l : List ℕ) (n s e : ℕ) where
+  abbrev from : List ℕ
+  from = take (length l - n) (drop n l)
+
+  module _ (h : (s ≤ e) × (e ≤ length from) × (s ≡ leading_of true from) × (e ≡ s + leading_of false (drop s from))) where
+    on : (x : Next) → x ≡ next_place n from → x ≡ next_place n (drop n l)
+    on x q = q ∙ ap (next_place n) (rest l n)
+
+    pub next_blank : s ≡ e → End ≡ next_place n (drop n l)
+    unfolding next_place
+    next_blank q = on End (rw (blank_at from s e h q))
+
+    module _ (q : s ≡ e → ⊥) (r : Number) (a : r ≡ place_of (take (e - s) (drop s from))) where
+      pub next_wrong : r ≡ Wrong → Mistake ≡ next_place n (drop n l)
+      unfolding next_place
+      next_wrong w = on Mistake (rw (blank_not from s e h q) (given_none from (part_is from s e h) refl place_of r a _ _ w))
+
+      pub next_value : (p : ℕ) → r ≡ Value p → Place p (n + e) ≡ next_place n (drop n l)
+      unfolding next_place
+      next_value p w =
+          on (Place p (n + e))
+          (rw (blank_not from s e h q)
+          (ap (λ (k : ℕ). Place p (n + k)) (at_end from s e h)
+          ∙ given_some from (part_is from s e h) refl place_of r a (λ x. Place x (n + end_of from)) Mistake p w))

@@ -18,6 +18,8 @@ use Rattle.root_steps.specs.Root.{root_step}
 use Rattle.compare_steps.specs.Compare.{compare_step, compare_zero_step}
 use Rattle.width_steps.specs.Width.{widen_step, narrow_step}
 use Rattle.integer_steps.specs.Integer.{from_step, truncate_step, round_step}
+use Rattle.register_fields.specs.Fields.{reg_d, reg_m}
+use Rattle.short_vectors.specs.Vector.{precision}
 use Rattle.short_vectors.proofs.Loop.{Repeats}
 use Rattle.register_marks.specs.Register.{known_in, mark_in}
 use Rattle.processing_marks.specs.Marked.{MarksStepped, MarksIterated, Copies, all_in, mark_raised}
@@ -92,6 +94,11 @@ module _ (μ : Map) where
 pub sign_Copies : (f : Format) (sign : SignOperation) → Copies f (sign_step f sign)
 sign_Copies binary32 sign d m μ = refl
 sign_Copies binary64 sign d m μ = refl
+
+-- a step of the registers that a word names, once its precision is told
+pub of_word : (one : Format → ℕ → ℕ → Step) (w k k' : ℕ) {double b : Bool} {d m : ℕ} → double ≡ b → d ≡ reg_d (precision b) w → m ≡ reg_m (precision b) w
+    → MarksStepped (one (precision b) d m) k k' → MarksStepped (one (precision double) (reg_d (precision double) w) (reg_m (precision double) w)) k k'
+of_word one w k k' e d' m' h = rw (e, ← d', ← m') h
 
 -- steps on a word of marks, and steps that copy marks, whichever they are
 abbrev pub on_marks : Repeats ℕ Step

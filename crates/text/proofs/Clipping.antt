@@ -3,9 +3,9 @@ use Prim.Native.Nat.{ℕ, zero, suc, ◌+◌, ◌-◌, ◌≤◌, ◌<◌, min}
 use native.Mathlib.Omega.{arith}
 use native.Mathlib.Numerals.{add-one}
 use mathlib.Core.Path.{◌≡◌, refl, sym, ◌∙◌, ap}
-use mathlib.Core.List.{List, [], ◌∷◌, ◌++◌, append_assoc}
-use lib.ListN.{length, take, set, length-take, length-append}
-use lib.Seq.{take_all, take-append-le, take-append-add, take-suc-set, length-take-le}
+use mathlib.Core.List.{List, [], ◌∷◌, ◌++◌, append_assoc, append-nil}
+use lib.ListN.{length, take, drop, get_or, set, length-take, length-append, drop_of_length-le}
+use lib.Seq.{drop-cons, take_all, take-append-le, take-append-add, take-suc-set, length-take-le}
 use borrow.Rule.Slice.PartMut.{put_mid}
 use Rattle.std.proofs.lemmas.List.{take_min}
 use Rattle.std.proofs.lemmas.Slice.{take-put_mid}
@@ -28,6 +28,10 @@ pub clip_short : (a : List ℕ) → length a ≤ 128 → clip a ≡ a
 unfolding clip
 clip_short a h = take_all 128 a h
 
+pub clip-length : (a : List ℕ) → length (clip a) ≤ 128
+unfolding clip
+clip-length a = omega (arith, length-take 128 a)
+
 module _ (l : List ℕ) (n b : ℕ) (e : length l ≡ 128) where
   pub push_room : n < 128 → take (n + 1) (set l n b) ≡ clip (take n l ++ (b ∷ []))
   push_room h =
@@ -37,6 +41,19 @@ module _ (l : List ℕ) (n b : ℕ) (e : length l ≡ 128) where
   pub push_full : 128 ≤ n → take n l ≡ clip (take n l ++ (b ∷ []))
   unfolding clip
   push_full h = rw (take_all n l (omega arith), take-append-le 128 l (b ∷ []) (omega arith)) (sym (take_all 128 l (omega arith)))
+
+pub take_short : (l : List ℕ) (n : ℕ) → length l ≡ 128 → length (take n l) ≤ 128
+take_short l n e = omega (arith, length-take n l)
+
+-- byte by byte
+pub push_short : (t a : List ℕ) → t ≡ clip a → length t ≤ 128
+push_short t a e = omega (arith, ap length e, clip-length a)
+
+pub push_more : (a t more : List ℕ) (i : ℕ) → i < length more → t ≡ clip (a ++ (get_or more i 0 ∷ [])) → clip (t ++ drop (i + 1) more) ≡ clip (a ++ drop i more)
+push_more a t more i h e = rw (e, clip_more a (get_or more i 0) (drop (i + 1) more), add-one i, ← drop-cons more i 0 h)
+
+pub add_end : (t more z : List ℕ) (i : ℕ) → length more ≤ i → length t ≤ 128 → clip (t ++ drop i more) ≡ z → t ≡ z
+add_end t more z i h k e = sym (clip_short t k) ∙ rw (drop_of_length-le more h, append-nil) at e
 
 -- as many bytes of a piece as there is room for
 pub added_at : (l more : List ℕ) (n k j : ℕ) (w : List ℕ) → length l ≡ 128 → n ≤ 128 → k ≡ min (128 - n) (length more) → w ≡ take k more → take (n + k) (put_mid n j l w) ≡ clip (take n l ++ more)
